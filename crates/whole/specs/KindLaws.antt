@@ -1,0 +1,122 @@
+-- Laws of rows in a flat list, for rows of any kind. Assumes nothing.
+use mathlib.Core.Path.{_≡_, refl, sym, ap, _∙_}
+use mathlib.Core.List.{List, [], _∷_, _++_, append-assoc}
+use Prim.Native.Nat.{ℕ, zero, suc, _+_, _-_, _*_, _≤_, _<_}
+use native.Mathlib.Nat.{add-zero, not-suc-le-zero, mul-le-mul-left}
+use native.Mathlib.Numerals.{add-one}
+use native.Mathlib.Omega.{arith}
+use lib.IntN.{ℤ}
+use lib.ListN.{length, take, drop, set, length-append, length-drop, take-append-drop, length-set}
+use lib.Seq.{sets, sets-eq, length-sets, drop-set-lt, take-set-le, drop-at, drop-append-le, drop-append-add, drop-drop, length-take-le, take-all, take-nil, drop-append-seam}
+use Rattle.whole.specs.Kind.{Kind, rowAt, putRow, flat, rowsFrom, front}
+
+-- ---- stores
+
+sets-append : (xs : List ℤ) (i : ℕ) (vs ws : List ℤ) → sets xs i (vs ++ ws) ≡ sets (sets xs i vs) (i + length vs) ws
+sets-append xs i [] ws = rw (add-zero i)
+sets-append xs i (v ∷ vs) ws =
+    let e : i + suc (length vs) ≡ suc i + length vs = omega arith in
+    rw e (sets-append (set xs i v) (suc i) vs ws)
+
+drop-sets : (n : ℕ) (xs : List ℤ) (i : ℕ) (vs : List ℤ) → i + length vs ≤ n → drop n (sets xs i vs) ≡ drop n xs
+drop-sets n xs i [] h = refl
+drop-sets n xs i (v ∷ vs) h = drop-sets n (set xs i v) (suc i) vs (omega arith) ∙ drop-set-lt n xs i v (omega arith)
+
+take-sets : (n : ℕ) (xs : List ℤ) (i : ℕ) (vs : List ℤ) → n ≤ i → take n (sets xs i vs) ≡ take n xs
+take-sets n xs i [] h = refl
+take-sets n xs i (v ∷ vs) h = take-sets n (set xs i v) (suc i) vs (omega arith) ∙ take-set-le n xs i v h
+
+take-drop : (k a : ℕ) (l : List ℤ) → take k (drop a l) ≡ drop a (take (a + k) l)
+take-drop k zero l = let e : 0 + k ≡ k = omega arith in rw e
+take-drop k (suc a) [] = take-nil k ∙ sym (ap (drop (suc a)) (take-nil (suc a + k)))
+take-drop k (suc a) (x ∷ l) = let e : suc a + k ≡ suc (a + k) = omega arith in rw e (take-drop k a l)
+
+module _ {A : Type 0} (R : Kind A) where
+  abbrev w : ℕ
+  w = R .width
+
+  pub length-put : (xs : List ℤ) (i : ℕ) (v : A) → length (putRow R xs i v) ≡ length xs
+  unfolding putRow
+  length-put xs i v = length-sets xs (w * i) (R .numbers v)
+
+  pub length-flat : (vs : List A) → length (flat R vs) ≡ w * length vs
+  unfolding flat
+  length-flat [] = omega arith
+  length-flat (v ∷ vs) = length-append (R .numbers v) (flat R vs) ∙ omega (arith, R .sized v, length-flat vs)
+
+  -- one row more
+  pub sets-flat : (xs : List ℤ) (i : ℕ) (v : A) (vs : List A) → sets xs (w * i) (flat R (v ∷ vs)) ≡ sets (putRow R xs i v) (w * (i + 1)) (flat R vs)
+  unfolding flat putRow
+  sets-flat xs i v vs =
+      let e : w * i + length (R .numbers v) ≡ w * (i + 1) = omega (arith, R .sized v) in
+      sets-append xs (w * i) (R .numbers v) (flat R vs) ∙ ap (λ (n : ℕ). sets (sets xs (w * i) (R .numbers v)) n (flat R vs)) e
+
+  -- all from the front
+  pub sets-front : (xs : List ℤ) (vs : List A) → w * length vs ≤ length xs → sets xs (w * 0) (flat R vs) ≡ front R xs vs
+  unfolding front
+  sets-front xs vs h =
+      let z : w * 0 ≡ 0 = omega arith in
+      let e : 0 + length (flat R vs) ≡ w * length vs = omega (arith, length-flat vs) in
+      rw z (sets-eq (flat R vs) xs 0 (omega (arith, e)) ∙ ap (λ (n : ℕ). flat R vs ++ drop n xs) e)
+
+  -- the rows after the one that is put, and those before it, are as they were
+  pub row-after : (xs : List ℤ) (i j : ℕ) (v : A) → i < j → rowAt R (putRow R xs i v) j ≡ rowAt R xs j
+  unfolding rowAt putRow
+  row-after xs i j v h = ap (R .make) (drop-sets (w * j) xs (w * i) (R .numbers v) (omega (arith, R .sized v, mul-le-mul-left w h)))
+
+  pub row-before : (xs : List ℤ) (i j : ℕ) (v : A) → j < i → rowAt R (putRow R xs i v) j ≡ rowAt R xs j
+  unfolding rowAt putRow
+  row-before xs i j v h =
+      let ys = sets xs (w * i) (R .numbers v) in
+      let t : take (w * j + w) ys ≡ take (w * j + w) xs = take-sets (w * j + w) xs (w * i) (R .numbers v) (omega (arith, mul-le-mul-left w h)) in
+      sym (R .short (drop (w * j) ys))
+      ∙ ap (R .make) (take-drop w (w * j) ys ∙ ap (drop (w * j)) t ∙ sym (take-drop w (w * j) xs))
+      ∙ R .short (drop (w * j) xs)
+
+  pub row-put : (xs : List ℤ) (i : ℕ) (v : A) → w * (i + 1) ≤ length xs → rowAt R (putRow R xs i v) i ≡ v
+  unfolding rowAt putRow
+  row-put xs i v h =
+      let n = w * i in
+      let f : n + length (R .numbers v) ≤ length xs = omega (arith, R .sized v) in
+      let r = drop (n + length (R .numbers v)) xs in
+      ap (λ (l : List ℤ). R .make (drop n l)) (sets-eq (R .numbers v) xs n f ∙ append-assoc (take n xs) (R .numbers v) r)
+      ∙ ap (R .make) (drop-at (take n xs) (R .numbers v ++ r) n (length-take-le n xs (omega arith)))
+      ∙ R .made v r
+
+  -- a row put where it stands
+  pub put-self : (xs : List ℤ) (i : ℕ) → w * (i + 1) ≤ length xs → putRow R xs i (rowAt R xs i) ≡ xs
+  unfolding rowAt putRow
+  put-self xs i h =
+      let n = w * i in
+      let d = drop n xs in
+      let e : R .numbers (R .make d) ≡ take w d = R .numbered d (rw (length-drop n xs) (omega arith)) in
+      let k : length (take w d) ≡ w = length-take-le w d (rw (length-drop n xs) (omega arith)) in
+      ap (λ (l : List ℤ). sets xs n l) e
+      ∙ sets-eq (take w d) xs n (omega arith)
+      ∙ rw k (ap (λ (l : List ℤ). take n xs ++ take w d ++ l) (sym (drop-drop w n xs)) ∙ append-assoc (take n xs) (take w d) (drop w d) ∙ ap (λ (l : List ℤ). take n xs ++ l) (take-append-drop w d) ∙ take-append-drop n xs)
+
+  -- ---- reading rows one after the other
+
+  pub rows-step : (xs : List ℤ) (m i : ℕ) → i < m → rowsFrom R xs i (m - i) ≡ rowAt R xs i ∷ rowsFrom R xs (i + 1) (m - (i + 1))
+  unfolding rowsFrom
+  rows-step xs m i h = let e : m - i ≡ suc (m - suc i) = omega arith in rw (e, add-one i)
+
+  pub rows-done : (xs : List ℤ) (m i : ℕ) → m ≤ i → rowsFrom R xs i (m - i) ≡ []
+  unfolding rowsFrom
+  rows-done xs m i h = let e : m - i ≡ 0 = omega arith in rw e
+
+  -- rows that stand one after the other behind n numbers are read back
+  rows-behind : (p : List ℤ) (i : ℕ) (vs : List A) (t : List ℤ) → length p ≡ w * i → rowsFrom R (p ++ (flat R vs ++ t)) i (length vs) ≡ vs
+  unfolding rowsFrom rowAt flat
+  rows-behind p i [] t e = refl
+  rows-behind p i (v ∷ vs) t e =
+      let r = flat R vs ++ t in
+      let l : p ++ ((R .numbers v ++ flat R vs) ++ t) ≡ (p ++ R .numbers v) ++ r = ap (λ (x : List ℤ). p ++ x) (append-assoc (R .numbers v) (flat R vs) t) ∙ sym (append-assoc p (R .numbers v) r) in
+      let n : length (p ++ R .numbers v) ≡ w * suc i = length-append p (R .numbers v) ∙ omega (arith, R .sized v) in
+      let first : R .make (drop (w * i) (p ++ ((R .numbers v ++ flat R vs) ++ t))) ≡ v =
+      ap (λ (x : List ℤ). R .make x) (drop-at p ((R .numbers v ++ flat R vs) ++ t) (w * i) e ∙ append-assoc (R .numbers v) (flat R vs) t) ∙ R .made v r in
+      rw (first, l) (ap (λ (x : List A). v ∷ x) (rows-behind (p ++ R .numbers v) (suc i) vs t n))
+
+  pub rows-front : (xs : List ℤ) (vs : List A) → rowsFrom R (front R xs vs) 0 (length vs) ≡ vs
+  unfolding front
+  rows-front xs vs = rows-behind [] 0 vs (drop (w * length vs) xs) (omega arith)
