@@ -1,0 +1,118 @@
+-- Segments that are apart: a look at the pair yields no mark ("Crossing"), said by the signs of the four turns and, on one line, by the order of points.
+-- It is symmetric, and `apart` decides it.
+use mathlib.Core.Path.{_≡_}
+use mathlib.Core.Bool.{Bool, not, _&&_, _||_}
+use mathlib.Core.Logic.{_⊎_, _↔_, _≢_, inl, inr}
+use lib.Dec.{T}
+use lib.IntN.{ℤ, pos}
+use lib.Signed.{ltZ, _<ℤ_}
+use Rattle.geom.specs.declared.Point.{Point}
+use Rattle.geom.specs.declared.Segment.{Segment}
+use Rattle.geom.specs.Plane.{Before, before, sameZ, samePoint, against}
+use Rattle.plane.specs.Decide.{and-is, or-is, not-is, lt-is, same-is}
+use Rattle.plane.specs.Order.{before-is, same-point-is}
+
+-- p comes before q or is q
+abbrev pub UpTo : Point → Point → Type 0
+UpTo p q = (p ≡ q) ⊎ Before p q
+
+-- of two turns: both over 0, or both under
+abbrev pub OneSide : ℤ → ℤ → Type 0
+OneSide o r = ((pos 0 <ℤ o) × (pos 0 <ℤ r)) ⊎ ((o <ℤ pos 0) × (r <ℤ pos 0))
+
+-- of two turns: just one is zero
+abbrev pub OneZero : ℤ → ℤ → Type 0
+OneZero o r = ((o ≡ pos 0) × (r ≢ pos 0)) ⊎ ((o ≢ pos 0) × (r ≡ pos 0))
+
+-- f's ends against the line of e
+abbrev pub o₁ : Segment → Segment → ℤ
+o₁ e f = against e (f .a)
+
+abbrev pub o₂ : Segment → Segment → ℤ
+o₂ e f = against e (f .b)
+
+-- all on one line, one up to the start of the other; one wholly beside the other's line; each with one end on the other's line
+pub data Apart (e f : Segment) : Type 0 where
+  in-line : o₁ e f ≡ pos 0 → o₂ e f ≡ pos 0 → o₁ f e ≡ pos 0 → o₂ f e ≡ pos 0 → UpTo (e .b) (f .a) ⊎ UpTo (f .b) (e .a) → Apart e f
+  off-e : OneSide (o₁ e f) (o₂ e f) → Apart e f
+  off-f : OneSide (o₁ f e) (o₂ f e) → Apart e f
+  at-ends : OneZero (o₁ e f) (o₂ e f) → OneZero (o₁ f e) (o₂ f e) → Apart e f
+
+flip : {A B : Type 0} → A ⊎ B → B ⊎ A
+flip (inl a) = inr a
+flip (inr b) = inl b
+
+pub apart-sym : {e f : Segment} → Apart e f → Apart f e
+apart-sym (in-line p q r s h) = in-line r s p q (flip h)
+apart-sym (off-e h) = off-f h
+apart-sym (off-f h) = off-e h
+apart-sym (at-ends h k) = at-ends k h
+
+-- ---- the test
+abbrev upTo : Point → Point → Bool
+upTo p q = samePoint p q || before p q
+
+abbrev oneSide : ℤ → ℤ → Bool
+oneSide o r = (ltZ (pos 0) o && ltZ (pos 0) r) || (ltZ o (pos 0) && ltZ r (pos 0))
+
+abbrev oneZero : ℤ → ℤ → Bool
+oneZero o r = (sameZ o (pos 0) && not (sameZ r (pos 0))) || (not (sameZ o (pos 0)) && sameZ r (pos 0))
+
+abbrev zeros : ℤ → ℤ → Bool
+zeros o r = sameZ o (pos 0) && sameZ r (pos 0)
+
+abbrev inLine : Segment → Segment → Bool
+inLine e f = (zeros (o₁ e f) (o₂ e f) && zeros (o₁ f e) (o₂ f e)) && (upTo (e .b) (f .a) || upTo (f .b) (e .a))
+
+unfoldable pub apart : Segment → Segment → Bool
+apart e f = (inLine e f || (oneZero (o₁ e f) (o₂ e f) && oneZero (o₁ f e) (o₂ f e))) || (oneSide (o₁ e f) (o₂ e f) || oneSide (o₁ f e) (o₂ f e))
+
+up-to-is : (p q : Point) → T (upTo p q) ↔ UpTo p q
+up-to-is p q = or-is (samePoint p q) (before p q) (same-point-is p q) (before-is p q)
+
+module _ (o r : ℤ) where
+  one-side-is : T (oneSide o r) ↔ OneSide o r
+  one-side-is = or-is (ltZ (pos 0) o && ltZ (pos 0) r) (ltZ o (pos 0) && ltZ r (pos 0))
+      (and-is (ltZ (pos 0) o) (ltZ (pos 0) r) (lt-is (pos 0) o) (lt-is (pos 0) r)) (and-is (ltZ o (pos 0)) (ltZ r (pos 0)) (lt-is o (pos 0)) (lt-is r (pos 0)))
+
+  one-zero-is : T (oneZero o r) ↔ OneZero o r
+  one-zero-is =
+      let h = same-is o (pos 0) in
+      let k = same-is r (pos 0) in
+      or-is (sameZ o (pos 0) && not (sameZ r (pos 0))) (not (sameZ o (pos 0)) && sameZ r (pos 0))
+      (and-is (sameZ o (pos 0)) (not (sameZ r (pos 0))) h (not-is (sameZ r (pos 0)) k)) (and-is (not (sameZ o (pos 0))) (sameZ r (pos 0)) (not-is (sameZ o (pos 0)) h) k)
+
+  zeros-is : T (zeros o r) ↔ ((o ≡ pos 0) × (r ≡ pos 0))
+  zeros-is = and-is (sameZ o (pos 0)) (sameZ r (pos 0)) (same-is o (pos 0)) (same-is r (pos 0))
+
+module _ (e f : Segment) where
+  abbrev InLine : Type 0
+  InLine = (((o₁ e f ≡ pos 0) × (o₂ e f ≡ pos 0)) × ((o₁ f e ≡ pos 0) × (o₂ f e ≡ pos 0))) × (UpTo (e .b) (f .a) ⊎ UpTo (f .b) (e .a))
+
+  abbrev Cases : Type 0
+  Cases = (InLine ⊎ (OneZero (o₁ e f) (o₂ e f) × OneZero (o₁ f e) (o₂ f e))) ⊎ (OneSide (o₁ e f) (o₂ e f) ⊎ OneSide (o₁ f e) (o₂ f e))
+
+  cases-are : T (apart e f) ↔ Cases
+  unfolding apart
+  cases-are = or-is (inLine e f || (oneZero (o₁ e f) (o₂ e f) && oneZero (o₁ f e) (o₂ f e))) (oneSide (o₁ e f) (o₂ e f) || oneSide (o₁ f e) (o₂ f e))
+      (or-is (inLine e f) (oneZero (o₁ e f) (o₂ e f) && oneZero (o₁ f e) (o₂ f e))
+      (and-is (zeros (o₁ e f) (o₂ e f) && zeros (o₁ f e) (o₂ f e)) (upTo (e .b) (f .a) || upTo (f .b) (e .a))
+      (and-is (zeros (o₁ e f) (o₂ e f)) (zeros (o₁ f e) (o₂ f e)) (zeros-is (o₁ e f) (o₂ e f)) (zeros-is (o₁ f e) (o₂ f e)))
+      (or-is (upTo (e .b) (f .a)) (upTo (f .b) (e .a)) (up-to-is (e .b) (f .a)) (up-to-is (f .b) (e .a))))
+      (and-is (oneZero (o₁ e f) (o₂ e f)) (oneZero (o₁ f e) (o₂ f e)) (one-zero-is (o₁ e f) (o₂ e f)) (one-zero-is (o₁ f e) (o₂ f e))))
+      (or-is (oneSide (o₁ e f) (o₂ e f)) (oneSide (o₁ f e) (o₂ f e)) (one-side-is (o₁ e f) (o₂ e f)) (one-side-is (o₁ f e) (o₂ f e)))
+
+  from-cases : Cases → Apart e f
+  from-cases (inl (inl h)) = in-line (h .0 .0 .0) (h .0 .0 .1) (h .0 .1 .0) (h .0 .1 .1) (h .1)
+  from-cases (inl (inr h)) = at-ends (h .0) (h .1)
+  from-cases (inr (inl h)) = off-e h
+  from-cases (inr (inr h)) = off-f h
+
+  to-cases : Apart e f → Cases
+  to-cases (in-line p q r s h) = inl (inl (((p, q), (r, s)), h))
+  to-cases (at-ends h k) = inl (inr (h, k))
+  to-cases (off-e h) = inr (inl h)
+  to-cases (off-f h) = inr (inr h)
+
+  pub apart-is : T (apart e f) ↔ Apart e f
+  apart-is = (λ t. from-cases (cases-are .0 t), λ h. cases-are .1 (to-cases h))
