@@ -1,12 +1,12 @@
 -- Linear arithmetic over ℤ, the monomials of products taken as atoms: a fact is brought to a fact of ℕ about `up m` and `dn m` of the monomials m, which `omega arith` reads.
-use mathlib.Core.Path.{_≡_, refl, sym, _∙_, ap, ap₂, subst}
+use mathlib.Core.Path.{_≡_, refl}
 use mathlib.Core.List.{List, [], _∷_}
 use Prim.Native.Nat.{ℕ, zero, suc, _+_, _*_, _<_, _≤_}
 use native.Mathlib.Omega.{arith}
-use lib.IntN.{ℤ, pos, negsuc, negℤ, _+ℤ_, _-ℤ_, _*ℤ_}
+use lib.IntN.{ℤ, pos, negsuc, _+ℤ_, _-ℤ_, _*ℤ_}
 use lib.Signed.{_≤ℤ_, _<ℤ_}
-use Rattle.whole.specs.Order.{up, dn, zz, add-is, sub-is, neg-is, mul-is}
-use Rattle.whole.specs.Ring.{Pol, con, _▹_, ev, add, neg, pol, Is, Both, both, diff, ring, reads, diff-sound}
+use Rattle.whole.specs.Order.{up, dn, zz, add-is, sub-is, mul-is}
+use Rattle.whole.specs.Ring.{Pol, con, _▹_, ev, Both, diff, ring, reads, diff-sound}
 
 pub data Mon : Type 0 where
   unit : Mon

@@ -2,12 +2,12 @@
 use mathlib.Core.Path.{_≡_, refl, sym, ap, _∙_}
 use mathlib.Core.List.{List, [], _∷_, _++_, append-assoc}
 use Prim.Native.Nat.{ℕ, zero, suc, _+_, _-_, _*_, _≤_, _<_}
-use native.Mathlib.Nat.{add-zero, not-suc-le-zero, mul-le-mul-left}
+use native.Mathlib.Nat.{add-zero, mul-le-mul-left}
 use native.Mathlib.Numerals.{add-one}
 use native.Mathlib.Omega.{arith}
 use lib.IntN.{ℤ}
-use lib.ListN.{length, take, drop, set, length-append, length-drop, take-append-drop, length-set}
-use lib.Seq.{sets, sets-eq, length-sets, drop-set-lt, take-set-le, drop-at, drop-append-le, drop-append-add, drop-drop, length-take-le, take-all, take-nil, drop-append-seam}
+use lib.ListN.{length, take, drop, set, length-append, length-drop, take-append-drop}
+use lib.Seq.{sets, sets-eq, length-sets, drop-set-lt, take-set-le, drop-at, drop-drop, length-take-le, take-nil}
 use Rattle.whole.specs.Kind.{Kind, rowAt, putRow, flat, rowsFrom, front}
 
 -- ---- stores

@@ -2,6 +2,7 @@ pub mod Order
 pub mod Ring
 pub mod Compare
 pub mod Sign
+pub mod Test
 pub mod Fit
 pub mod Sum
 pub mod Total

@@ -1,24 +1,29 @@
--- Signs of products, cancelling, bounds of products.
-use mathlib.Core.Path.{_≡_, refl, sym, _∙_, ap, ap₂, subst}
-use mathlib.Core.List.{List, [], _∷_}
-use mathlib.Core.Logic.{_≢_, _⊎_, inl, inr, ⊎-elim}
+-- Signs of products, cancelling, bounds; and how to split on the order of two numbers. Prove a sign in three steps: an identity by `ring`, the signs of the
+-- products by a law of this file, the rest by `omega zz`:
+--     let k = mul-pos {a = b -ℤ a} {b = c} (omega (zz, sub-is b a)) p in omega (zz, sub-mul a b c, sub-is (b *ℤ c) (a *ℤ c))
+-- The factors of a product are implicit and are not found by themselves where they are compound: give them by name, as here. `omega` neither reads nor proves
+-- a sum of types: split with `tri a b` (less, same, more), `lt-or-le`, or by contradiction (`le-by-contra`, `lt-by-contra`).
+use mathlib.Core.Path.{_≡_, refl, ap}
+use mathlib.Core.List.{[], _∷_}
+use mathlib.Core.Logic.{_⊎_, inl, inr, ⊎-elim}
 use mathlib.Core.Bool.{Bool, true, false, not}
-use Prim.Native.Nat.{ℕ, zero, suc, _+_, _*_, _-_, _<_, _≤_, _^_}
+use Prim.Native.Nat.{ℕ, zero, suc, _+_, _*_, _≤_}
 use native.Mathlib.Nat.{mul-le-mul}
 use native.Mathlib.Omega.{arith}
 use lib.Dec.{T}
-use lib.IntN.{ℤ, pos, negsuc, negℤ, natAbs, _+ℤ_, _-ℤ_, _*ℤ_, *ℤ-comm}
-use lib.Signed.{mag, ltZ, ltZ-yes, ltZ-no, _≤ℤ_, _<ℤ_}
-use Rattle.whole.specs.Order.{up, dn, zz, add-is, sub-is, neg-is, mul-is, split, mag-is}
+use lib.IntN.{ℤ, pos, negsuc, negℤ, natAbs, _+ℤ_, _-ℤ_, _*ℤ_, *ℤ-comm, zero-*ℤ}
+use lib.Signed.{ltZ, ltZ-yes, ltZ-no, _≤ℤ_, _<ℤ_}
+use Rattle.whole.specs.Order.{up, dn, zz, add-is, sub-is, neg-is, split}
 use Rattle.whole.specs.Ring.{ring, reads}
 
--- ---- deciding
-lt-or-le′ : (a b : ℤ) (t : Bool) → (T t → a <ℤ b) → (T (not t) → b ≤ℤ a) → (a <ℤ b) ⊎ (b ≤ℤ a)
-lt-or-le′ a b true f g = inl (f tt)
-lt-or-le′ a b false f g = inr (g tt)
+-- ---- splitting on the order
 
 pub lt-or-le : (a b : ℤ) → (a <ℤ b) ⊎ (b ≤ℤ a)
-lt-or-le a b = lt-or-le′ a b (ltZ a b) ltZ-yes ltZ-no
+lt-or-le a b = go (ltZ a b) ltZ-yes ltZ-no
+  where
+    go : (t : Bool) → (T t → a <ℤ b) → (T (not t) → b ≤ℤ a) → (a <ℤ b) ⊎ (b ≤ℤ a)
+    go true f g = inl (f tt)
+    go false f g = inr (g tt)
 
 -- by contradiction
 pub le-by-contra : {a b : ℤ} → (b <ℤ a → ⊥) → a ≤ℤ b
@@ -37,6 +42,7 @@ pub tri : (a b : ℤ) → Tri a b
 tri a b = ⊎-elim less (λ p. ⊎-elim more (λ q. same (omega zz)) (lt-or-le b a)) (lt-or-le a b)
 
 -- ---- the sign of a product
+
 pub mul-pos : {a b : ℤ} → pos 0 <ℤ a → pos 0 <ℤ b → pos 0 <ℤ (a *ℤ b)
 mul-pos {a = pos zero} {b} p q = let z : ⊥ = omega zz in absurd z
 mul-pos {a = pos (suc a)} {b = pos zero} p q = let z : ⊥ = omega zz in absurd z
@@ -80,9 +86,14 @@ pub mul-nonpos-nonpos : {a b : ℤ} → a ≤ℤ pos 0 → b ≤ℤ pos 0 → po
 mul-nonpos-nonpos {a} {b} p q = rw (neg-neg a b) at (mul-nonneg (flip≤ p) (flip≤ q))
 
 pub sq-nonneg : (a : ℤ) → pos 0 ≤ℤ (a *ℤ a)
-sq-nonneg a = ⊎-elim (λ p. let q : a ≤ℤ pos 0 = omega zz in mul-nonpos-nonpos q q) (λ p. mul-nonneg p p) (lt-or-le a (pos 0))
+sq-nonneg a =
+    ⊎-elim
+    (λ (p : a <ℤ pos 0). let q : a ≤ℤ pos 0 = omega zz in mul-nonpos-nonpos q q)
+    (λ p. mul-nonneg p p)
+    (lt-or-le a (pos 0))
 
 -- ---- from the product to the factors
+
 pub pos-right : {a b : ℤ} → pos 0 <ℤ a → pos 0 <ℤ (a *ℤ b) → pos 0 <ℤ b
 pos-right {a} {b} p h = lt-by-contra (λ q. let k = mul-nonneg-nonpos {a = a} {b = b} (omega zz) q in omega zz)
 
@@ -94,13 +105,14 @@ neg-right {a} {b} p h = lt-by-contra (λ q. let k = mul-nonneg {a = a} {b = b} (
 
 -- a product is negative: opposite signs
 pub opposite : (a b : ℤ) → (a *ℤ b) <ℤ pos 0 → ((a <ℤ pos 0) × (pos 0 <ℤ b)) ⊎ ((pos 0 <ℤ a) × (b <ℤ pos 0))
-opposite a b h = ⊎-elim
+opposite a b h =
+    ⊎-elim
     (λ p. inl (p, lt-by-contra (λ q. let k = mul-nonpos-nonpos {a = a} {b = b} (omega zz) q in omega zz)))
-    (λ p. inr (lt-by-contra (λ q. let e : a ≡ pos 0 = omega zz in zero-case e), lt-by-contra (λ q. let k = mul-nonneg p q in omega zz)))
+    (λ p. inr (lt-by-contra (λ q. not-zero (omega zz)), lt-by-contra (λ q. let k = mul-nonneg p q in omega zz)))
     (lt-or-le a (pos 0))
   where
-    zero-case : a ≡ pos 0 → ⊥
-    zero-case e = omega (zz, mul-is a b, ap (λ t. up t * up b) e, ap (λ t. up t * dn b) e, ap (λ t. dn t * up b) e, ap (λ t. dn t * dn b) e)
+    not-zero : a ≡ pos 0 → ⊥
+    not-zero e = omega (zz, h, ap (λ t. t *ℤ b) e, zero-*ℤ b)
 
 -- a product is zero: one factor is
 pub zero-product : (a b : ℤ) → a *ℤ b ≡ pos 0 → (a ≡ pos 0) ⊎ (b ≡ pos 0)
@@ -116,14 +128,17 @@ zero-product a b e = go (tri a (pos 0)) (tri b (pos 0))
     go (more p) (more q) = let z : ⊥ = omega (zz, mul-pos p q) in absurd z
 
 -- ---- order and products
+
 sub-mul : (a b c : ℤ) → (b -ℤ a) *ℤ c ≡ b *ℤ c -ℤ a *ℤ c
 sub-mul a b c = ring (a ∷ b ∷ c ∷ []) (search reads depth 20 fits 5000) tt
 
 pub mul-mono : {a b : ℤ} (c : ℤ) → pos 0 ≤ℤ c → a ≤ℤ b → (a *ℤ c) ≤ℤ (b *ℤ c)
-mul-mono {a} {b} c p h = omega (zz, mul-nonneg {a = b -ℤ a} {b = c} (omega (zz, sub-is b a)) p, sub-mul a b c, sub-is (b *ℤ c) (a *ℤ c))
+mul-mono {a} {b} c p h =
+    omega (zz, mul-nonneg {a = b -ℤ a} {b = c} (omega (zz, sub-is b a)) p, sub-mul a b c, sub-is (b *ℤ c) (a *ℤ c))
 
 pub mul-mono-lt : {a b : ℤ} (c : ℤ) → pos 0 <ℤ c → a <ℤ b → (a *ℤ c) <ℤ (b *ℤ c)
-mul-mono-lt {a} {b} c p h = omega (zz, mul-pos {a = b -ℤ a} {b = c} (omega (zz, sub-is b a)) p, sub-mul a b c, sub-is (b *ℤ c) (a *ℤ c))
+mul-mono-lt {a} {b} c p h =
+    omega (zz, mul-pos {a = b -ℤ a} {b = c} (omega (zz, sub-is b a)) p, sub-mul a b c, sub-is (b *ℤ c) (a *ℤ c))
 
 pub cancel-le : {a b : ℤ} (c : ℤ) → pos 0 <ℤ c → (a *ℤ c) ≤ℤ (b *ℤ c) → a ≤ℤ b
 cancel-le {a} {b} c p h = le-by-contra (λ q. omega (zz, mul-mono-lt c p q))
@@ -135,7 +150,8 @@ cancel-lt {a} {b} c p h = lt-by-contra (λ q. omega (zz, mul-mono c (omega zz) q
 pub both-zero : {a b : ℤ} → pos 0 ≤ℤ a → pos 0 ≤ℤ b → a +ℤ b ≡ pos 0 → (a ≡ pos 0) × (b ≡ pos 0)
 both-zero {a} {b} p q e = (omega (zz, add-is a b), omega (zz, add-is a b))
 
--- ---- bounds
+-- ---- distance from 0
+
 pub abs-is : (a : ℤ) → natAbs a ≡ up a + dn a
 abs-is (pos a) = omega arith
 abs-is (negsuc a) = omega arith
@@ -152,13 +168,3 @@ abs-mul (negsuc a) (negsuc b) = refl
 
 pub abs-mul-le : (a b : ℤ) {m n : ℕ} → natAbs a ≤ m → natAbs b ≤ n → natAbs (a *ℤ b) ≤ m * n
 abs-mul-le a b p q = rw (abs-mul a b) (mul-le-mul p q)
-
--- the difference of two products of differences fits in 64 bits
-pub cross-fits : (ax ay bx by cx cy : ℤ) → mag ax < 2 ^ 30 → mag ay < 2 ^ 30 → mag bx < 2 ^ 30 → mag by < 2 ^ 30 → mag cx < 2 ^ 30 → mag cy < 2 ^ 30 → mag ((bx -ℤ ax) *ℤ (cy -ℤ ay) -ℤ (by -ℤ ay) *ℤ (cx -ℤ ax)) < 2 ^ 63
-cross-fits ax ay bx by cx cy hax hay hbx hby hcx hcy = top ((bx -ℤ ax) *ℤ (cy -ℤ ay)) ((by -ℤ ay) *ℤ (cx -ℤ ax)) (abs-mul-le (bx -ℤ ax) (cy -ℤ ay) (d bx ax hbx hax) (d cy ay hcy hay)) (abs-mul-le (by -ℤ ay) (cx -ℤ ax) (d by ay hby hay) (d cx ax hcx hax))
-  where
-    d : (x y : ℤ) → mag x < 2 ^ 30 → mag y < 2 ^ 30 → natAbs (x -ℤ y) ≤ 2 ^ 31 - 1
-    d x y p q = omega (zz, abs-is (x -ℤ y), sub-is x y, split (x -ℤ y), mag-is x, mag-is y)
-
-    top : (p q : ℤ) → natAbs p ≤ (2 ^ 31 - 1) * (2 ^ 31 - 1) → natAbs q ≤ (2 ^ 31 - 1) * (2 ^ 31 - 1) → mag (p -ℤ q) < 2 ^ 63
-    top p q hp hq = omega (zz, abs-is p, abs-is q, sub-is p q, mag-is (p -ℤ q), split (p -ℤ q))
