@@ -1,9 +1,9 @@
 -- Document 01's words for points and segments: the grid ("Input and answer", refusal 3), the order of points and what it is to turn a
 -- segment ("The run"), upright ("Masks"), and the turn of three points, whose sign is the orientation of "Crossing".
 use mathlib.Core.Path.{_≡_}
-use mathlib.Core.Bool.{Bool, true, false, cond, _&&_}
+use mathlib.Core.Bool.{Bool, true, false, cond}
 use Prim.Native.Nat.{ℕ, _<_, _^_}
-use lib.IntN.{ℤ, pos, negsuc, negℤ, _-ℤ_, _*ℤ_}
+use lib.IntN.{ℤ, pos, negℤ, _-ℤ_, _*ℤ_}
 use lib.Signed.{mag, ltZ, leZ, _<ℤ_}
 use mir.Syntax.{w32}
 use mir.Val.{SFits}
@@ -43,7 +43,7 @@ pub record GridSegment (v : Segment) : Type 0 where
 
 -- the same as tests
 unfoldable pub onGrid : ℤ → Bool
-onGrid z = cond (ltZ z (negsuc 1073741823)) false (ltZ z (pos 1073741824))
+onGrid z = cond (ltZ z (negℤ (pos (2 ^ 30)))) false (ltZ z (pos (2 ^ 30)))
 
 unfoldable pub gridPoint : Point → Bool
 gridPoint p = cond (onGrid (p .x .0)) (onGrid (p .y .0)) false
@@ -65,7 +65,7 @@ unfoldable pub between : Point → Point → Point → Bool
 between p q r = cond (before p q) (before q r) false
 
 abbrev pub sameZ : ℤ → ℤ → Bool
-sameZ a b = leZ a b && leZ b a
+sameZ a b = cond (leZ a b) (leZ b a) false
 
 unfoldable pub samePoint : Point → Point → Bool
 samePoint p q = cond (sameZ (p .x .0) (q .x .0)) (sameZ (p .y .0) (q .y .0)) false

@@ -1,13 +1,22 @@
 -- A segment is a row of six numbers: a.x, a.y, b.x, b.y, subject count, clip count ("Input and answer").
 use mathlib.Core.Path.{_≡_, refl}
 use mathlib.Core.List.{List, [], _∷_}
-use Prim.Native.Nat.{ℕ, _≤_}
+use Prim.Native.Nat.{ℕ, _+_, _≤_}
 use native.Mathlib.Omega.{arith}
 use lib.IntN.{ℤ, pos}
-use lib.ListN.{length, getD, take}
+use lib.ListN.{length, getD, set, take}
 use Rattle.whole.specs.Kind.{Kind}
 use Rattle.geom.specs.declared.Segment.{Segment}
 use Rattle.geom.specs.Plane.{point, segment}
+
+-- the segment whose six numbers start at place k
+abbrev pub segmentFrom : List ℤ → ℕ → Segment
+segmentFrom l k =
+    segment (point (getD l k (pos 0)) (getD l (k + 1) (pos 0))) (point (getD l (k + 2) (pos 0)) (getD l (k + 3) (pos 0))) (getD l (k + 4) (pos 0)) (getD l (k + 5) (pos 0))
+
+-- the list with two numbers stored from place k on
+abbrev pub two : List ℤ → ℕ → ℤ → ℤ → List ℤ
+two l k x y = set (set l k x) (k + 1) y
 
 abbrev pub numbers : Segment → List ℤ
 numbers v = v .a .x .0 ∷ v .a .y .0 ∷ v .b .x .0 ∷ v .b .y .0 ∷ v .subject .0 ∷ v .clip .0 ∷ []

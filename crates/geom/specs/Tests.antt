@@ -1,0 +1,123 @@
+-- Each test of Plane decides its sentence: true where the sentence holds, false where it does not.
+use mathlib.Core.Path.{_≡_, refl, ap}
+use mathlib.Core.Bool.{Bool, true, false, cond}
+use mathlib.Core.Logic.{_↔_, _⊎_, inl, inr, ⊎-elim}
+use Prim.Native.Nat.{ℕ, _^_}
+use native.Mathlib.Omega.{arith}
+use lib.IntN.{ℤ, pos, negℤ}
+use lib.Signed.{ltZ, leZ, _≤ℤ_, _<ℤ_}
+use Rattle.whole.specs.Order.{zz, lt-true, lt-false, le-true, le-false, mag-in, mag-out, nlt-in}
+use Rattle.whole.specs.Sign.{Tri, less, same, more, tri}
+use Rattle.geom.specs.declared.Point.{Point}
+use Rattle.geom.specs.declared.Segment.{Segment}
+use Rattle.geom.specs.Plane.{OnGrid, GridPoint, GridSegment, onGrid, gridPoint, gridSegment, Before, by-x, by-y, before, between, sameZ, samePoint, upright}
+use Rattle.geom.specs.Order.{point-eq}
+
+-- the test t decides the sentence P
+pub data Decides (P : Type 0) : Bool → Type 0 where
+  yes : P → Decides P true
+  no : (P → ⊥) → Decides P false
+
+pub holds : {P : Type 0} {t : Bool} → Decides P t → P → t ≡ true
+holds (yes h) p = refl
+holds (no f) p = absurd (f p)
+
+pub fails : {P : Type 0} {t : Bool} → Decides P t → (P → ⊥) → t ≡ false
+fails (yes h) f = absurd (f h)
+fails (no f) g = refl
+
+pub when-true : {P : Type 0} {t : Bool} → Decides P t → t ≡ true → P
+when-true (yes h) e = h
+when-true (no f) e = let z : _≡_ {A = ℕ} 0 1 = cc in absurd (omega arith)
+
+pub when-false : {P : Type 0} {t : Bool} → Decides P t → t ≡ false → P → ⊥
+when-false (yes h) e p = let z : _≡_ {A = ℕ} 0 1 = cc in omega arith
+when-false (no f) e p = f p
+
+-- ---- tests made of tests
+
+pub said : {P Q : Type 0} {t : Bool} → (P → Q) → (Q → P) → Decides P t → Decides Q t
+said f g (yes h) = yes (f h)
+said f g (no n) = no (λ q. n (g q))
+
+pub both : {P Q : Type 0} {a b : Bool} → Decides P a → Decides Q b → Decides (P × Q) (cond a b false)
+both (yes p) (yes q) = yes (p, q)
+both (yes p) (no g) = no (λ h. g (h .1))
+both (no f) d = no (λ h. f (h .0))
+
+pub either : {P Q : Type 0} {a b : Bool} → Decides P a → Decides Q b → Decides (P ⊎ Q) (cond a true b)
+either (yes p) d = yes (inl p)
+either (no f) (yes q) = yes (inr q)
+either (no f) (no g) = no (⊎-elim f g)
+
+pub unless : {P Q : Type 0} {a b : Bool} → Decides P a → Decides Q b → Decides ((P → ⊥) × Q) (cond a false b)
+unless (yes p) d = no (λ h. h .0 p)
+unless (no f) (yes q) = yes (f, q)
+unless (no f) (no g) = no (λ h. g (h .1))
+
+-- ---- whole numbers
+
+pub lt? : (a b : ℤ) → Decides (a <ℤ b) (ltZ a b)
+lt? a b = go (ltZ a b) refl
+  where
+    go : (t : Bool) → ltZ a b ≡ t → Decides (a <ℤ b) t
+    go true e = yes (omega (zz, lt-true a b e))
+    go false e = no (λ h. omega (zz, lt-false a b e))
+
+pub le? : (a b : ℤ) → Decides (a ≤ℤ b) (leZ a b)
+le? a b = go (leZ a b) refl
+  where
+    go : (t : Bool) → leZ a b ≡ t → Decides (a ≤ℤ b) t
+    go true e = yes (omega (zz, le-true a b e))
+    go false e = no (λ h. omega (zz, le-false a b e))
+
+pub same? : (a b : ℤ) → Decides (a ≡ b) (sameZ a b)
+same? a b = said (λ h. omega (zz, h .0, h .1)) (λ e. (omega zz, omega zz)) (both (le? a b) (le? b a))
+
+-- ---- the grid
+
+pub grid-is : (z : ℤ) → OnGrid z ↔ ((negℤ (pos (2 ^ 30)) ≤ℤ z) × (z <ℤ pos (2 ^ 30)))
+grid-is z = ((λ g. (omega (zz, g .near, mag-in z), omega (zz, g .near, mag-in z))), λ h. record { near = mag-out z (omega (zz, h .0, h .1)) (omega (zz, h .0, h .1)) })
+
+pub onGrid? : (z : ℤ) → Decides (OnGrid z) (onGrid z)
+unfolding onGrid
+onGrid? z = said (λ h. grid-is z .1 (omega (zz, nlt-in (h .0)), h .1)) (λ g. ((λ l. omega (zz, grid-is z .0 g .0)), grid-is z .0 g .1)) (unless (lt? z (negℤ (pos (2 ^ 30)))) (lt? z (pos (2 ^ 30))))
+
+pub gridPoint? : (p : Point) → Decides (GridPoint p) (gridPoint p)
+unfolding gridPoint
+gridPoint? p = said (λ h. record { x = h .0; y = h .1 }) (λ g. (g .x, g .y)) (both (onGrid? (p .x .0)) (onGrid? (p .y .0)))
+
+pub gridSegment? : (v : Segment) → Decides (GridSegment v) (gridSegment v)
+unfolding gridSegment
+gridSegment? v = said (λ h. record { a = h .0; b = h .1 }) (λ g. (g .a, g .b)) (both (gridPoint? (v .a)) (gridPoint? (v .b)))
+
+-- ---- points
+
+pub before? : (p q : Point) → Decides (Before p q) (before p q)
+unfolding before
+before? p q = said to from (either (lt? (p .x .0) (q .x .0)) (unless (lt? (q .x .0) (p .x .0)) (lt? (p .y .0) (q .y .0))))
+  where
+    by-tri : Tri (p .x .0) (q .x .0) → (q .x .0 <ℤ p .x .0 → ⊥) → p .y .0 <ℤ q .y .0 → Before p q
+    by-tri (less h) n k = by-x h
+    by-tri (same h) n k = by-y h k
+    by-tri (more h) n k = absurd (n h)
+
+    to : (p .x .0 <ℤ q .x .0) ⊎ ((q .x .0 <ℤ p .x .0 → ⊥) × (p .y .0 <ℤ q .y .0)) → Before p q
+    to (inl h) = by-x h
+    to (inr h) = by-tri (tri (p .x .0) (q .x .0)) (h .0) (h .1)
+
+    from : Before p q → (p .x .0 <ℤ q .x .0) ⊎ ((q .x .0 <ℤ p .x .0 → ⊥) × (p .y .0 <ℤ q .y .0))
+    from (by-x h) = inl h
+    from (by-y e h) = inr ((λ k. omega zz), h)
+
+pub between? : (p q r : Point) → Decides (Before p q × Before q r) (between p q r)
+unfolding between
+between? p q r = both (before? p q) (before? q r)
+
+pub samePoint? : (p q : Point) → Decides (p ≡ q) (samePoint p q)
+unfolding samePoint
+samePoint? p q = said (λ h. point-eq (h .0) (h .1)) (λ e. (ap (λ t. t .x .0) e, ap (λ t. t .y .0) e)) (both (same? (p .x .0) (q .x .0)) (same? (p .y .0) (q .y .0)))
+
+pub upright? : (v : Segment) → Decides (v .a .x .0 ≡ v .b .x .0) (upright v)
+unfolding upright
+upright? v = same? (v .a .x .0) (v .b .x .0)
