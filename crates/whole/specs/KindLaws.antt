@@ -1,13 +1,15 @@
--- Laws of rows in a flat list, for rows of any kind. Assumes nothing.
-use mathlib.Core.Path.{_≡_, refl, sym, ap, _∙_}
+-- Laws of rows in a flat list, for rows of any kind R: what a stored row leaves (`row-put`, `row-before`, `row-after`), how rows are read one after the other
+-- (`rows-step` and `rows-done` for a loop; `length-rows`, `rows-at`, `rows-append`, `rows-same` for a list), and a list with rows at its front (`length-front`,
+-- `rows-front`, `row-front`, `row-past`, `drop-front`, `front-front`, `front-rows`). Each takes R first.
+use mathlib.Core.Path.{_≡_, refl, sym, ap, ap₂, _∙_}
 use mathlib.Core.List.{List, [], _∷_, _++_, append-assoc}
 use Prim.Native.Nat.{ℕ, zero, suc, _+_, _-_, _*_, _≤_, _<_}
-use native.Mathlib.Nat.{add-zero, mul-le-mul-left}
+use native.Mathlib.Nat.{add-zero, not-suc-le-zero, mul-le-mul-left}
 use native.Mathlib.Numerals.{add-one}
 use native.Mathlib.Omega.{arith}
 use lib.IntN.{ℤ}
-use lib.ListN.{length, take, drop, set, length-append, length-drop, take-append-drop}
-use lib.Seq.{sets, sets-eq, length-sets, drop-set-lt, take-set-le, drop-at, drop-drop, length-take-le, take-nil}
+use lib.ListN.{length, getD, take, drop, set, length-append, length-drop, take-append-drop}
+use lib.Seq.{sets, sets-eq, length-sets, drop-set-lt, take-set-le, drop-at, drop-append-add, drop-drop, length-take-le, take-nil}
 use Rattle.whole.specs.Kind.{Kind, rowAt, putRow, flat, rowsFrom, front}
 
 -- ---- stores
@@ -120,3 +122,84 @@ module _ {A : Type 0} (R : Kind A) where
   pub rows-front : (xs : List ℤ) (vs : List A) → rowsFrom R (front R xs vs) 0 (length vs) ≡ vs
   unfolding front
   rows-front xs vs = rows-behind [] 0 vs (drop (w * length vs) xs) (omega arith)
+
+  pub length-rows : (xs : List ℤ) (i n : ℕ) → length (rowsFrom R xs i n) ≡ n
+  unfolding rowsFrom
+  length-rows xs i zero = refl
+  length-rows xs i (suc n) = ap suc (length-rows xs (suc i) n)
+
+  pub rows-at : (xs : List ℤ) (i n j : ℕ) (d : A) → j < n → getD (rowsFrom R xs i n) j d ≡ rowAt R xs (i + j)
+  unfolding rowsFrom
+  rows-at xs i zero j d h = absurd (not-suc-le-zero h)
+  rows-at xs i (suc n) zero d h = rw (add-zero i)
+  rows-at xs i (suc n) (suc j) d h = rows-at xs (suc i) n j d (omega arith) ∙ ap (rowAt R xs) (omega arith)
+
+  pub rows-append : (xs : List ℤ) (i m n : ℕ) → rowsFrom R xs i (m + n) ≡ rowsFrom R xs i m ++ rowsFrom R xs (i + m) n
+  unfolding rowsFrom
+  rows-append xs i zero n = let e : 0 + n ≡ n = omega arith in rw (e, add-zero i)
+  rows-append xs i (suc m) n =
+      let e : suc m + n ≡ suc (m + n) = omega arith in
+      let f : i + suc m ≡ suc i + m = omega arith in
+      rw (e, f) (ap (λ (l : List A). rowAt R xs i ∷ l) (rows-append xs (suc i) m n))
+
+  -- lists with the same rows
+  pub rows-same : (xs ys : List ℤ) (i n : ℕ) → ((k : ℕ) → i ≤ k → k < i + n → rowAt R xs k ≡ rowAt R ys k) → rowsFrom R xs i n ≡ rowsFrom R ys i n
+  unfolding rowsFrom
+  rows-same xs ys i zero h = refl
+  rows-same xs ys i (suc n) h =
+      ap₂ _∷_ (h i (omega arith) (omega arith)) (rows-same xs ys (suc i) n (λ k p q. h k (omega arith) (omega arith)))
+
+  -- ---- rows at the front
+
+  pub length-front : (xs : List ℤ) (vs : List A) → w * length vs ≤ length xs → length (front R xs vs) ≡ length xs
+  unfolding front
+  length-front xs vs h =
+      length-append (flat R vs) (drop (w * length vs) xs) ∙ omega (arith, length-flat vs, length-drop (w * length vs) xs)
+
+  -- past the rows the list is as it was
+  pub drop-front : (xs : List ℤ) (vs : List A) (n : ℕ) → w * length vs ≤ n → drop n (front R xs vs) ≡ drop n xs
+  unfolding front
+  drop-front xs vs n h =
+      let k = w * length vs in
+      let e : n ≡ length (flat R vs) + (n - k) = omega (arith, length-flat vs) in
+      let f : k + (n - k) ≡ n = omega arith in
+      ap (λ (t : ℕ). drop t (flat R vs ++ drop k xs)) e
+      ∙ drop-append-add (flat R vs) (drop k xs) (n - k)
+      ∙ drop-drop (n - k) k xs
+      ∙ ap (λ (t : ℕ). drop t xs) f
+
+  pub row-past : (xs : List ℤ) (vs : List A) (i : ℕ) → length vs ≤ i → rowAt R (front R xs vs) i ≡ rowAt R xs i
+  unfolding rowAt
+  row-past xs vs i h = ap (R .make) (drop-front xs vs (w * i) (mul-le-mul-left w h))
+
+  pub row-front : (xs : List ℤ) (vs : List A) (i : ℕ) (d : A) → i < length vs → rowAt R (front R xs vs) i ≡ getD vs i d
+  row-front xs vs i d h =
+      let e : 0 + i ≡ i = omega arith in
+      ap (rowAt R (front R xs vs)) (sym e)
+      ∙ sym (rows-at (front R xs vs) 0 (length vs) i d h)
+      ∙ ap (λ (l : List A). getD l i d) (rows-front xs vs)
+
+  -- as many rows or more, written over rows
+  pub front-front : (xs : List ℤ) (us vs : List A) → length us ≤ length vs → front R (front R xs us) vs ≡ front R xs vs
+  unfolding front
+  front-front xs us vs h = ap (λ (l : List ℤ). flat R vs ++ l) (drop-front xs us (w * length vs) (mul-le-mul-left w h))
+
+  flat-from : (xs : List ℤ) (i n : ℕ) → w * (i + n) ≤ length xs → flat R (rowsFrom R xs i n) ++ drop (w * (i + n)) xs ≡ drop (w * i) xs
+  unfolding flat rowsFrom rowAt
+  flat-from xs i zero h = rw (add-zero i)
+  flat-from xs i (suc n) h =
+      let d = drop (w * i) xs in
+      let l : w ≤ length d = rw (length-drop (w * i) xs) (omega arith) in
+      let e : i + suc n ≡ suc i + n = omega arith in
+      let f : w * i + w ≡ w * suc i = omega arith in
+      rw (R .numbered d l, append-assoc (take w d) (flat R (rowsFrom R xs (suc i) n)) (drop (w * (i + suc n)) xs), e, flat-from xs (suc i) n (rw (← e) h))
+      (ap (λ (t : ℕ). take w d ++ drop t xs) (sym f) ∙ ap (λ (t : List ℤ). take w d ++ t) (sym (drop-drop w (w * i) xs)) ∙ take-append-drop w d)
+
+  -- a list's own rows
+  pub front-rows : (xs : List ℤ) (n : ℕ) → w * n ≤ length xs → front R xs (rowsFrom R xs 0 n) ≡ xs
+  unfolding front
+  front-rows xs n h =
+      let e : 0 + n ≡ n = omega arith in
+      let z : w * 0 ≡ 0 = omega arith in
+      rw (length-rows xs 0 n)
+      (ap (λ (t : ℕ). flat R (rowsFrom R xs 0 n) ++ drop (w * t) xs) (sym e) ∙ flat-from xs 0 n (rw e h) ∙ ap (λ (t : ℕ). drop t xs) z)

@@ -13,6 +13,7 @@ pub mod Rows
 pub mod Words
 pub mod Kind
 pub mod KindLaws
+pub mod KindSort
 pub mod Append
 pub mod AppendLaws
 pub mod Pass
