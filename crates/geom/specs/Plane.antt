@@ -1,7 +1,7 @@
 -- Document 01's words for points and segments: the grid ("Input and answer", refusal 3), the order of points and what it is to turn a
 -- segment ("The run"), upright ("Masks"), and the turn of three points, whose sign is the orientation of "Crossing".
 use mathlib.Core.Path.{_≡_}
-use mathlib.Core.Bool.{Bool, true, false, cond}
+use mathlib.Core.Bool.{Bool, true, false, cond, _&&_}
 use Prim.Native.Nat.{ℕ, _<_, _^_}
 use lib.IntN.{ℤ, pos, negℤ, _-ℤ_, _*ℤ_}
 use lib.Signed.{mag, ltZ, leZ, _<ℤ_}
@@ -65,7 +65,7 @@ unfoldable pub between : Point → Point → Point → Bool
 between p q r = cond (before p q) (before q r) false
 
 abbrev pub sameZ : ℤ → ℤ → Bool
-sameZ a b = cond (leZ a b) (leZ b a) false
+sameZ a b = leZ a b && leZ b a
 
 unfoldable pub samePoint : Point → Point → Bool
 samePoint p q = cond (sameZ (p .x .0) (q .x .0)) (sameZ (p .y .0) (q .y .0)) false

@@ -1,6 +1,6 @@
 -- Each test of Plane decides its sentence: true where the sentence holds, false where it does not.
 use mathlib.Core.Path.{_≡_, refl, ap}
-use mathlib.Core.Bool.{Bool, true, false, cond}
+use mathlib.Core.Bool.{Bool, true, false, cond, _&&_}
 use mathlib.Core.Logic.{_↔_, _⊎_, inl, inr, ⊎-elim}
 use Prim.Native.Nat.{ℕ, _^_}
 use native.Mathlib.Omega.{arith}
@@ -45,6 +45,11 @@ both (yes p) (yes q) = yes (p, q)
 both (yes p) (no g) = no (λ h. g (h .1))
 both (no f) d = no (λ h. f (h .0))
 
+pub and : {P Q : Type 0} {a b : Bool} → Decides P a → Decides Q b → Decides (P × Q) (a && b)
+and (yes p) (yes q) = yes (p, q)
+and (yes p) (no g) = no (λ h. g (h .1))
+and (no f) d = no (λ h. f (h .0))
+
 pub either : {P Q : Type 0} {a b : Bool} → Decides P a → Decides Q b → Decides (P ⊎ Q) (cond a true b)
 either (yes p) d = yes (inl p)
 either (no f) (yes q) = yes (inr q)
@@ -72,7 +77,7 @@ le? a b = go (leZ a b) refl
     go false e = no (λ h. omega (zz, le-false a b e))
 
 pub same? : (a b : ℤ) → Decides (a ≡ b) (sameZ a b)
-same? a b = said (λ h. omega (zz, h .0, h .1)) (λ e. (omega zz, omega zz)) (both (le? a b) (le? b a))
+same? a b = said (λ h. omega (zz, h .0, h .1)) (λ e. (omega zz, omega zz)) (and (le? a b) (le? b a))
 
 -- ---- the grid
 
