@@ -35,13 +35,13 @@ module _ (u v : ℤ) (u-low : pos 0 ≤ℤ u) (v-low : pos 0 ≤ℤ v) (some : p
   no-sum (inl h) e = omega (zz, sum-over (h .0) (h .1))
   no-sum (inr h) e = omega (zz, sum-under (h .0) (h .1))
 
-pub no-first : (u v p q : ℤ) → p ≡ pos 0 → q ≢ pos 0 → v *ℤ p +ℤ u *ℤ q ≡ pos 0 → u ≡ pos 0
+no-first : (u v p q : ℤ) → p ≡ pos 0 → q ≢ pos 0 → v *ℤ p +ℤ u *ℤ q ≡ pos 0 → u ≡ pos 0
 no-first u v p q h n e = ⊎-elim (λ z. z) (λ z. absurd (n z)) (zero-product u q (id ∙ ap (λ t. v *ℤ t +ℤ u *ℤ q) (sym h) ∙ e))
   where
     id : u *ℤ q ≡ v *ℤ pos 0 +ℤ u *ℤ q
     id = ring (u ∷ q ∷ v ∷ []) (search reads depth 20 fits 5000) tt
 
-pub no-second : (u v p q : ℤ) → p ≢ pos 0 → q ≡ pos 0 → v *ℤ p +ℤ u *ℤ q ≡ pos 0 → v ≡ pos 0
+no-second : (u v p q : ℤ) → p ≢ pos 0 → q ≡ pos 0 → v *ℤ p +ℤ u *ℤ q ≡ pos 0 → v ≡ pos 0
 no-second u v p q n h e = ⊎-elim (λ z. z) (λ z. absurd (n z)) (zero-product v p (id ∙ ap (λ t. v *ℤ p +ℤ u *ℤ t) (sym h) ∙ e))
   where
     id : v *ℤ p ≡ v *ℤ p +ℤ u *ℤ pos 0
@@ -52,9 +52,15 @@ module _ (e : Segment) {f : Segment} {P : Off} (W : Weights f P) (h : cross e P 
   beside : OneSide (o₁ e f) (o₂ e f) → ⊥
   beside s = no-sum (W .u) (W .v) (W .u-low) (W .v-low) (W .some) (o₁ e f) (o₂ e f) s (key e W h)
 
-  pub at-zero : OneZero (o₁ e f) (o₂ e f) → EndOf f P
-  at-zero (inl z) = inl (is-a W (no-first (W .u) (W .v) (o₁ e f) (o₂ e f) (z .0) (z .1) (key e W h)))
-  at-zero (inr z) = inr (is-b W (no-second (W .u) (W .v) (o₁ e f) (o₂ e f) (z .0) (z .1) (key e W h)))
+  pub at-a : o₁ e f ≡ pos 0 → o₂ e f ≢ pos 0 → Is P (f .a)
+  at-a z n = is-a W (no-first (W .u) (W .v) (o₁ e f) (o₂ e f) z n (key e W h))
+
+  pub at-b : o₁ e f ≢ pos 0 → o₂ e f ≡ pos 0 → Is P (f .b)
+  at-b n z = is-b W (no-second (W .u) (W .v) (o₁ e f) (o₂ e f) n z (key e W h))
+
+  at-zero : OneZero (o₁ e f) (o₂ e f) → EndOf f P
+  at-zero (inl z) = inl (at-a (z .0) (z .1))
+  at-zero (inr z) = inr (at-b (z .0) (z .1))
 
 -- ---- on one line: P is not after e.b, nor e.b after f.a, nor f.a after P
 up-to-trans : {p q r : Point} → UpTo p q → UpTo q r → UpTo p r

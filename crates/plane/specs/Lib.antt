@@ -1,5 +1,6 @@
 -- In reading order: tests that decide their sentence; the order of points; segments that are apart; the order of points, scaled;
--- the laws of turns; the weights of a point on a segment; apart segments meet only at ends of both.
+-- the laws of turns; the weights of a point on a segment; apart segments meet only at ends of both; means and the crossing;
+-- what the four signs make of a pair; touching and crossing; apart, exactly if all common points are ends of both; no mark, exactly if apart.
 pub mod Decide
 pub mod Order
 pub mod Apart
@@ -7,3 +8,8 @@ pub mod Scaled
 pub mod Turns
 pub mod Weights
 pub mod Ends
+pub mod Mean
+pub mod Meeting
+pub mod Pierce
+pub mod Exactly
+pub mod Unmarked
