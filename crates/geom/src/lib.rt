@@ -3,9 +3,12 @@
 ghost use mathlib.Core.Path.{_≡_};
 ghost use Prim.Native.Nat.{_+_, _*_, _≤_};
 ghost use lib.ListN.{length};
+ghost use lib.IntN.{_-ℤ_, _*ℤ_};
 ghost use lib.Signed.{ltZ};
+ghost use mir.Syntax.{w64};
+ghost use mir.Val.{SFits};
 ghost use Rattle.whole.specs.Kind.{rowAt, putRow};
-ghost use Rattle.geom.specs.Plane.{onGrid, gridPoint, gridSegment, before as isBefore, between as isBetween, sameZ, samePoint};
+ghost use Rattle.geom.specs.Plane.{OnGrid, GridPoint, onGrid, gridPoint, gridSegment, before as isBefore, between as isBetween, sameZ, samePoint, Countable, negCount, turned as turnedOf, turn as turnOf, sideOf};
 ghost use Rattle.geom.specs.Rows.{segments, segmentFrom, two};
 
 pub struct Coord(pub i32);
@@ -139,4 +142,97 @@ pub fn same_point(p: Point, q: Point) -> bool
         return same(p.y, q.y);
     }
     false
+}
+
+fn negated(c: Count) -> Count
+    requires { ⌜ Countable c ⌝ }
+    ensures { λ r. ⌜ r ≡ negCount c ⌝ }
+{
+    Count(-c.0)
+}
+
+// The same stretch from its end to its start, counted the other way round.
+pub fn turned(v: Segment) -> Segment
+    requires { ⌜ Countable (v .subject) ⌝ }
+    requires { ⌜ Countable (v .clip) ⌝ }
+    ensures { λ r. ⌜ r ≡ turnedOf v ⌝ }
+{
+    let a = v.b;
+    let b = v.a;
+    let subject = negated(v.subject);
+    let clip = negated(v.clip);
+    Segment {
+        a,
+        b,
+        subject,
+        clip,
+    }
+}
+
+// The steps of signed sums, each with what it asks as a clause: a caller reads an equation of whole numbers, and no bits.
+pub fn wide(x: i32) -> i64
+    ensures { λ r. ⌜ r ≡ x ⌝ }
+{
+    x as i64
+}
+
+pub fn minus(a: i64, b: i64) -> i64
+    requires { ⌜ SFits w64 (a -ℤ b) ⌝ }
+    ensures { λ r. ⌜ r ≡ a -ℤ b ⌝ }
+{
+    a - b
+}
+
+pub fn times(a: i64, b: i64) -> i64
+    requires { ⌜ SFits w64 (a *ℤ b) ⌝ }
+    ensures { λ r. ⌜ r ≡ a *ℤ b ⌝ }
+{
+    a * b
+}
+
+// How far a is past b.
+pub fn gap(a: Coord, b: Coord) -> i64
+    requires { ⌜ OnGrid (a .0) ⌝ }
+    requires { ⌜ OnGrid (b .0) ⌝ }
+    ensures { λ r. ⌜ r ≡ a .0 -ℤ b .0 ⌝ }
+{
+    minus(wide(a.0), wide(b.0))
+}
+
+// The product of two gaps.
+fn area(a: Coord, b: Coord, c: Coord, d: Coord) -> i64
+    requires { ⌜ OnGrid (a .0) ⌝ }
+    requires { ⌜ OnGrid (b .0) ⌝ }
+    requires { ⌜ OnGrid (c .0) ⌝ }
+    requires { ⌜ OnGrid (d .0) ⌝ }
+    ensures { λ r. ⌜ r ≡ (a .0 -ℤ b .0) *ℤ (c .0 -ℤ d .0) ⌝ }
+{
+    times(gap(a, b), gap(c, d))
+}
+
+// Over 0 where q lies left of the way from o to p. It fits 64 bits because differences on the grid stay below 2^31.
+pub fn turn(o: Point, p: Point, q: Point) -> i64
+    requires { ⌜ GridPoint o ⌝ }
+    requires { ⌜ GridPoint p ⌝ }
+    requires { ⌜ GridPoint q ⌝ }
+    ensures { λ r. ⌜ r ≡ turnOf o p q ⌝ }
+{
+    minus(area(p.x, o.x, q.y, o.y), area(p.y, o.y, q.x, o.x))
+}
+
+// The sign of the turn: 0 right, 1 on the line, 2 left.
+pub fn side(o: Point, p: Point, q: Point) -> u8
+    requires { ⌜ GridPoint o ⌝ }
+    requires { ⌜ GridPoint p ⌝ }
+    requires { ⌜ GridPoint q ⌝ }
+    ensures { λ r. ⌜ r ≡ sideOf o p q ⌝ }
+{
+    let t = turn(o, p, q);
+    if t < 0 {
+        return 0;
+    }
+    if 0 < t {
+        return 2;
+    }
+    1
 }
