@@ -1,0 +1,5 @@
+-- In reading order: how two segments cross; the marks of a look; splitting.
+pub mod Cross
+pub mod Marks
+pub mod Look
+pub mod Chain

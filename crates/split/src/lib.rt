@@ -1,0 +1,2 @@
+// Where segments cross (split/cross_solver.rs), the look over every pair, and splitting at the marks (split/solver.rs).
+pub mod answer;
