@@ -7,3 +7,4 @@ pub mod Order
 pub mod Tests
 pub mod Turned
 pub mod Bounds
+pub mod Limits
