@@ -1,0 +1,4 @@
+pub mod Inside
+pub mod Keep
+pub mod Decision
+pub mod KeepLaws
