@@ -1,3 +1,4 @@
+pub mod Masks
 pub mod Inside
 pub mod Keep
 pub mod Decision

@@ -20,4 +20,3 @@ pub mod Pass
 pub mod PassLaws
 pub mod Distinct
 pub mod DistinctLaws
-pub mod Examples
