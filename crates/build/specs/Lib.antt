@@ -1,4 +1,3 @@
-pub mod Masks
 pub mod Inside
 pub mod Keep
 pub mod Decision

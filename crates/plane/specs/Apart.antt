@@ -9,8 +9,8 @@ use lib.Signed.{ltZ, _<ℤ_}
 use Rattle.geom.specs.declared.Point.{Point}
 use Rattle.geom.specs.declared.Segment.{Segment}
 use Rattle.geom.specs.Plane.{Before, before, sameZ, samePoint, against}
-use Rattle.plane.specs.Decide.{and-is, or-is, not-is, lt-is, same-is}
-use Rattle.plane.specs.Order.{before-is, same-point-is}
+use Rattle.geom.specs.Tests.{Decides, said, and, lt?, same?, before?, samePoint?}
+use Rattle.plane.specs.Decide.{or, opposite, truth}
 
 -- p comes before q or is q
 abbrev pub UpTo : Point → Point → Type 0
@@ -67,40 +67,28 @@ inLine e f = (zeros (o₁ e f) (o₂ e f) && zeros (o₁ f e) (o₂ f e)) && (up
 unfoldable pub apart : Segment → Segment → Bool
 apart e f = (inLine e f || (oneZero (o₁ e f) (o₂ e f) && oneZero (o₁ f e) (o₂ f e))) || (oneSide (o₁ e f) (o₂ e f) || oneSide (o₁ f e) (o₂ f e))
 
-up-to-is : (p q : Point) → T (upTo p q) ↔ UpTo p q
-up-to-is p q = or-is (samePoint p q) (before p q) (same-point-is p q) (before-is p q)
+up-to? : (p q : Point) → Decides (UpTo p q) (upTo p q)
+up-to? p q = or (samePoint? p q) (before? p q)
 
 module _ (o r : ℤ) where
-  one-side-is : T (oneSide o r) ↔ OneSide o r
-  one-side-is = or-is (ltZ (pos 0) o && ltZ (pos 0) r) (ltZ o (pos 0) && ltZ r (pos 0))
-      (and-is (ltZ (pos 0) o) (ltZ (pos 0) r) (lt-is (pos 0) o) (lt-is (pos 0) r)) (and-is (ltZ o (pos 0)) (ltZ r (pos 0)) (lt-is o (pos 0)) (lt-is r (pos 0)))
+  one-side? : Decides (OneSide o r) (oneSide o r)
+  one-side? = or (and (lt? (pos 0) o) (lt? (pos 0) r)) (and (lt? o (pos 0)) (lt? r (pos 0)))
 
-  one-zero-is : T (oneZero o r) ↔ OneZero o r
-  one-zero-is =
-      let h = same-is o (pos 0) in
-      let k = same-is r (pos 0) in
-      or-is (sameZ o (pos 0) && not (sameZ r (pos 0))) (not (sameZ o (pos 0)) && sameZ r (pos 0))
-      (and-is (sameZ o (pos 0)) (not (sameZ r (pos 0))) h (not-is (sameZ r (pos 0)) k)) (and-is (not (sameZ o (pos 0))) (sameZ r (pos 0)) (not-is (sameZ o (pos 0)) h) k)
+  one-zero? : Decides (OneZero o r) (oneZero o r)
+  one-zero? = or (and (same? o (pos 0)) (opposite (same? r (pos 0)))) (and (opposite (same? o (pos 0))) (same? r (pos 0)))
 
-  zeros-is : T (zeros o r) ↔ ((o ≡ pos 0) × (r ≡ pos 0))
-  zeros-is = and-is (sameZ o (pos 0)) (sameZ r (pos 0)) (same-is o (pos 0)) (same-is r (pos 0))
+  zeros? : Decides ((o ≡ pos 0) × (r ≡ pos 0)) (zeros o r)
+  zeros? = and (same? o (pos 0)) (same? r (pos 0))
 
 module _ (e f : Segment) where
   abbrev InLine : Type 0
   InLine = (((o₁ e f ≡ pos 0) × (o₂ e f ≡ pos 0)) × ((o₁ f e ≡ pos 0) × (o₂ f e ≡ pos 0))) × (UpTo (e .b) (f .a) ⊎ UpTo (f .b) (e .a))
 
+  in-line? : Decides InLine (inLine e f)
+  in-line? = and (and (zeros? (o₁ e f) (o₂ e f)) (zeros? (o₁ f e) (o₂ f e))) (or (up-to? (e .b) (f .a)) (up-to? (f .b) (e .a)))
+
   abbrev Cases : Type 0
   Cases = (InLine ⊎ (OneZero (o₁ e f) (o₂ e f) × OneZero (o₁ f e) (o₂ f e))) ⊎ (OneSide (o₁ e f) (o₂ e f) ⊎ OneSide (o₁ f e) (o₂ f e))
-
-  cases-are : T (apart e f) ↔ Cases
-  unfolding apart
-  cases-are = or-is (inLine e f || (oneZero (o₁ e f) (o₂ e f) && oneZero (o₁ f e) (o₂ f e))) (oneSide (o₁ e f) (o₂ e f) || oneSide (o₁ f e) (o₂ f e))
-      (or-is (inLine e f) (oneZero (o₁ e f) (o₂ e f) && oneZero (o₁ f e) (o₂ f e))
-      (and-is (zeros (o₁ e f) (o₂ e f) && zeros (o₁ f e) (o₂ f e)) (upTo (e .b) (f .a) || upTo (f .b) (e .a))
-      (and-is (zeros (o₁ e f) (o₂ e f)) (zeros (o₁ f e) (o₂ f e)) (zeros-is (o₁ e f) (o₂ e f)) (zeros-is (o₁ f e) (o₂ f e)))
-      (or-is (upTo (e .b) (f .a)) (upTo (f .b) (e .a)) (up-to-is (e .b) (f .a)) (up-to-is (f .b) (e .a))))
-      (and-is (oneZero (o₁ e f) (o₂ e f)) (oneZero (o₁ f e) (o₂ f e)) (one-zero-is (o₁ e f) (o₂ e f)) (one-zero-is (o₁ f e) (o₂ f e))))
-      (or-is (oneSide (o₁ e f) (o₂ e f)) (oneSide (o₁ f e) (o₂ f e)) (one-side-is (o₁ e f) (o₂ e f)) (one-side-is (o₁ f e) (o₂ f e)))
 
   from-cases : Cases → Apart e f
   from-cases (inl (inl h)) = in-line (h .0 .0 .0) (h .0 .0 .1) (h .0 .1 .0) (h .0 .1 .1) (h .1)
@@ -114,5 +102,10 @@ module _ (e f : Segment) where
   to-cases (off-e h) = inr (inl h)
   to-cases (off-f h) = inr (inr h)
 
+  pub apart? : Decides (Apart e f) (apart e f)
+  unfolding apart
+  apart? = said from-cases to-cases
+      (or (or in-line? (and (one-zero? (o₁ e f) (o₂ e f)) (one-zero? (o₁ f e) (o₂ f e)))) (or (one-side? (o₁ e f) (o₂ e f)) (one-side? (o₁ f e) (o₂ f e))))
+
   pub apart-is : T (apart e f) ↔ Apart e f
-  apart-is = (λ t. from-cases (cases-are .0 t), λ h. cases-are .1 (to-cases h))
+  apart-is = truth apart?

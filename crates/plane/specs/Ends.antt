@@ -12,7 +12,7 @@ use Rattle.geom.specs.declared.Point.{Point}
 use Rattle.geom.specs.declared.Segment.{Segment}
 use Rattle.geom.specs.Plane.{Before, turn}
 use Rattle.geom.specs.Off.{Off, cross, On, Is, EndOf}
-use Rattle.plane.specs.Order.{before-irr, before-trans}
+use Rattle.geom.specs.Order.{before-irr, before-trans}
 use Rattle.plane.specs.Apart.{UpTo, OneSide, OneZero, o₁, o₂, Apart, in-line, off-e, off-f, at-ends}
 use Rattle.plane.specs.Scaled.{at, is-of, before-at}
 use Rattle.plane.specs.Weights.{Weights, weights, is-a, is-b, first, last, key}

@@ -32,7 +32,7 @@ sorted e f be bf ne = go (case e f be bf)
     go (clear h) = apart h
     go (end-of-f o t) = touch (touched e f be bf o t)
     go (end-of-e t o) = touch (touch-sym (touched f e bf be o t))
-    go (through s t) = cross (crossed e f be bf s t)
+    go (through s t) = cross (crossed e f s t)
 
 -- ---- a common point that is not an end of both
 pub record Meets (e f : Segment) : Type 0 where
@@ -128,7 +128,7 @@ module _ (e f : Segment) (be : Before (e .a) (e .b)) (bf : Before (f .a) (f .b))
   touch-meets (b-of-e z i) = meets-sym (free-at f e (e .b) (last-on e) bf z i)
 
   pub cross-meets : Crossed e f → Meets e f
-  cross-meets c = record { P = c .P; on-e = c .on-e; on-f = c .on-f; free = λ t. inner-no-end (c .inside-e) (t .0) }
+  cross-meets c = record { P = c .P; on-e = c .on-e; on-f = c .on-f; free = λ t. inner-no-end (c .inside-e be) (t .0) }
 
   -- apart, or a common point that is not an end of both
   pub apart-or-meets : Different e f → Apart e f ⊎ Meets e f

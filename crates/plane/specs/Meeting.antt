@@ -3,6 +3,7 @@ use mathlib.Core.Path.{_≡_, refl}
 use mathlib.Core.Bool.{Bool, true, false, cond, _||_}
 use mathlib.Core.Logic.{_⊎_, inl, inr}
 use Prim.Native.Nat.{ℕ, _+_, _%_}
+use native.Mathlib.Omega.{arith}
 use lib.Dec.{eqb, ltb}
 use lib.IntN.{ℤ, pos}
 use lib.Signed.{ltZ, _<ℤ_}
@@ -10,7 +11,7 @@ use Rattle.whole.specs.Order.{zz, lt-true, lt-false}
 use Rattle.geom.specs.declared.Segment.{Segment}
 use Rattle.geom.specs.Plane.{Before, signOf, sideOf}
 use Rattle.plane.specs.Apart.{OneSide, OneZero, o₁, o₂, Apart, off-e, off-f, at-ends}
-use Rattle.plane.specs.Turns.{level}
+use Rattle.plane.specs.Turns.{level-both}
 
 pub data Meeting : Type 0 where
   collinear none touching crossing : Meeting
@@ -19,12 +20,9 @@ pub data Meeting : Type 0 where
 abbrev pub byCount : ℕ → Bool → Meeting
 byCount zeros equal = cond (eqb zeros 4) collinear (cond (ltb 1 zeros || equal) none (cond (eqb zeros 1) touching crossing))
 
--- the zeros of a couple: a sign is 0, 1 or 2, and 1 for zero
-abbrev pub zeros : ℕ → ℕ → ℕ
-zeros s t = s % 2 + t % 2
-
+-- a sign is 0, 1 or 2, and 1 for zero
 unfoldable pub meetingBy : ℕ → ℕ → ℕ → ℕ → Meeting
-meetingBy s1 s2 s3 s4 = byCount (zeros s1 s2 + zeros s3 s4) (eqb s1 s2 || eqb s3 s4)
+meetingBy s1 s2 s3 s4 = byCount (s1 % 2 + s2 % 2 + s3 % 2 + s4 % 2) (eqb s1 s2 || eqb s3 s4)
 
 -- f's ends against the line of e, e's ends against the line of f
 abbrev pub meeting : Segment → Segment → Meeting
@@ -33,7 +31,7 @@ meeting e f = meetingBy (sideOf (e .a) (e .b) (f .a)) (sideOf (e .a) (e .b) (f .
 -- ---- the sign of a number
 pub data Sign (o : ℤ) : ℕ → Type 0 where
   under : o <ℤ pos 0 → Sign o 0
-  zero : o ≡ pos 0 → Sign o 1
+  level : o ≡ pos 0 → Sign o 1
   over : pos 0 <ℤ o → Sign o 2
 
 pub sign : (o : ℤ) → Sign o (signOf o)
@@ -42,7 +40,7 @@ sign o = go (ltZ o (pos 0)) (ltZ (pos 0) o) refl refl
     go : (b c : Bool) → ltZ o (pos 0) ≡ b → ltZ (pos 0) o ≡ c → Sign o (cond b 0 (cond c 2 1))
     go true c h k = under (omega (zz, lt-true o (pos 0) h))
     go false true h k = over (omega (zz, lt-true (pos 0) o k))
-    go false false h k = zero (omega (zz, lt-false o (pos 0) h, lt-false (pos 0) o k))
+    go false false h k = level (omega (zz, lt-false o (pos 0) h, lt-false (pos 0) o k))
 
 -- ---- a couple of turns, by its zeros and whether its signs are equal
 -- on both sides of the line
@@ -55,15 +53,15 @@ data Couple (o r : ℤ) : ℕ → Bool → Type 0 where
   one : OneZero o r → Couple o r 1 false
   parted : Parted o r → Couple o r 0 false
 
-couple : {o r : ℤ} {s t : ℕ} → Sign o s → Sign r t → Couple o r (zeros s t) (eqb s t)
+couple : {o r : ℤ} {s t : ℕ} → Sign o s → Sign r t → Couple o r (s % 2 + t % 2) (eqb s t)
 couple (under h) (under k) = alike (inr (h, k))
-couple (under h) (zero k) = one (inr (omega zz, k))
+couple (under h) (level k) = one (inr (omega zz, k))
 couple (under h) (over k) = parted (inl (h, k))
-couple (zero h) (under k) = one (inl (h, omega zz))
-couple (zero h) (zero k) = both h k
-couple (zero h) (over k) = one (inl (h, omega zz))
+couple (level h) (under k) = one (inl (h, omega zz))
+couple (level h) (level k) = both h k
+couple (level h) (over k) = one (inl (h, omega zz))
 couple (over h) (under k) = parted (inr (h, k))
-couple (over h) (zero k) = one (inr (omega zz, k))
+couple (over h) (level k) = one (inr (omega zz, k))
 couple (over h) (over k) = alike (inl (h, k))
 
 -- ---- what each answer says of the four turns
@@ -82,6 +80,9 @@ off-level : {o r : ℤ} → Parted o r → o ≡ pos 0 → ⊥
 off-level (inl h) p = omega zz
 off-level (inr h) p = omega zz
 
+regroup : (k l m n : ℕ) → k + l + m + n ≡ (k + l) + (m + n)
+regroup k l m n = omega arith
+
 module _ (e f : Segment) (be : Before (e .a) (e .b)) (bf : Before (f .a) (f .b)) where
   cases : {m n : ℕ} {b c : Bool} → Couple (o₁ e f) (o₂ e f) m b → Couple (o₁ f e) (o₂ f e) n c → Case e f (byCount (m + n) (b || c))
   cases (alike h) (alike k) = clear (off-e h)
@@ -96,11 +97,12 @@ module _ (e f : Segment) (be : Before (e .a) (e .b)) (bf : Before (f .a) (f .b))
   cases (one h) (parted k) = end-of-f h k
   cases (parted h) (one k) = end-of-e h k
   cases (parted h) (parted k) = through h k
-  cases (both h k) (one l) = let z = level e f h k be in absurd (not-level l (z .0) (z .1))
-  cases (both h k) (parted l) = absurd (off-level l (level e f h k be .0))
-  cases (one h) (both k l) = let z = level f e k l bf in absurd (not-level h (z .0) (z .1))
-  cases (parted h) (both k l) = absurd (off-level h (level f e k l bf .0))
+  cases (both h k) (one l) = let z = level-both e f h k be in absurd (not-level l (z .0) (z .1))
+  cases (both h k) (parted l) = absurd (off-level l (level-both e f h k be .0))
+  cases (one h) (both k l) = let z = level-both f e k l bf in absurd (not-level h (z .0) (z .1))
+  cases (parted h) (both k l) = absurd (off-level h (level-both f e k l bf .0))
 
   pub case : Case e f (meeting e f)
   unfolding meetingBy sideOf
-  case = cases (couple (sign (o₁ e f)) (sign (o₂ e f))) (couple (sign (o₁ f e)) (sign (o₂ f e)))
+  case = rw (regroup (signOf (o₁ e f) % 2) (signOf (o₂ e f) % 2) (signOf (o₁ f e) % 2) (signOf (o₂ f e) % 2))
+      (cases (couple (sign (o₁ e f)) (sign (o₂ e f))) (couple (sign (o₁ f e)) (sign (o₂ f e))))

@@ -12,7 +12,7 @@ use Rattle.geom.specs.declared.Point.{Point}
 use Rattle.geom.specs.declared.Segment.{Segment}
 use Rattle.geom.specs.Plane.{Before}
 use Rattle.geom.specs.Off.{Off, On, Is}
-use Rattle.plane.specs.Order.{Order, sooner, equal, later, order}
+use Rattle.geom.specs.Order.{Order, sooner, equal, later, order}
 use Rattle.plane.specs.Apart.{OneZero, o₁, o₂, Apart, in-line}
 use Rattle.plane.specs.Scaled.{at, of-is, at-before}
 use Rattle.plane.specs.Turns.{falls, rises}
@@ -56,47 +56,46 @@ record Pierced (e f : Segment) : Type 0 where
   P : Off
   on-e : On e P
   on-f : On f P
-  inside-e : Inner e P
-  inside-f : Parted (o₁ e f) (o₂ e f) → Inner f P
+  inside-e : Before (e .a) (e .b) → Inner e P
+  inside-f : Parted (o₁ e f) (o₂ e f) → Before (f .a) (f .b) → Inner f P
 
-module _ (e f : Segment) (be : Before (e .a) (e .b)) (bf : Before (f .a) (f .b)) where
-  pierce : Parted (o₁ f e) (o₂ f e) → Loose (o₁ e f) (o₂ e f) → Pierced e f
-  pierce (inl h) (inr k) =
-      let l : o₁ f e <ℤ o₂ f e = omega zz in
-      let M = meet-on-e e f l (omega zz) (omega zz) in
-      let N = meet-on-f e f l (k .0) (k .1) in
-      record {
-        P = meet e f l;
-        on-e = mean-on M;
-        on-f = mean-on N;
-        inside-e = mean-inner be M (omega (zz, neg-is (o₁ f e))) (h .1);
-        inside-f = λ s. let t = downward (falls e f l) s in mean-inner bf N (t .0) (omega (zz, neg-is (o₂ e f)));
-      }
-  pierce (inr h) (inl k) =
-      let l : o₁ e f <ℤ o₂ e f = rises e f (omega zz) in
-      let M = meet-on-f f e l (omega zz) (omega zz) in
-      let N = meet-on-e f e l (k .0) (k .1) in
-      record {
-        P = meet f e l;
-        on-e = mean-on M;
-        on-f = mean-on N;
-        inside-e = mean-inner be M (h .0) (omega (zz, neg-is (o₂ f e)));
-        inside-f = λ s. let t = upward l s in mean-inner bf N (omega (zz, neg-is (o₁ e f))) (t .1);
-      }
-  pierce (inl h) (inl k) = let z : ⊥ = omega (zz, falls e f (omega zz)) in absurd z
-  pierce (inr h) (inr k) = let z : ⊥ = omega (zz, rises e f (omega zz)) in absurd z
+pierce : (e f : Segment) → Parted (o₁ f e) (o₂ f e) → Loose (o₁ e f) (o₂ e f) → Pierced e f
+pierce e f (inl h) (inr k) =
+    let l : o₁ f e <ℤ o₂ f e = omega zz in
+    let M = meet-on-e e f l (omega zz) (omega zz) in
+    let N = meet-on-f e f l (k .0) (k .1) in
+    record {
+      P = meet e f l;
+      on-e = mean-on M;
+      on-f = mean-on N;
+      inside-e = λ be. mean-inner be M (omega (zz, neg-is (o₁ f e))) (h .1);
+      inside-f = λ s bf. let t = downward (falls e f l) s in mean-inner bf N (t .0) (omega (zz, neg-is (o₂ e f)));
+    }
+pierce e f (inr h) (inl k) =
+    let l : o₁ e f <ℤ o₂ e f = rises e f (omega zz) in
+    let M = meet-on-f f e l (omega zz) (omega zz) in
+    let N = meet-on-e f e l (k .0) (k .1) in
+    record {
+      P = meet f e l;
+      on-e = mean-on M;
+      on-f = mean-on N;
+      inside-e = λ be. mean-inner be M (h .0) (omega (zz, neg-is (o₂ f e)));
+      inside-f = λ s bf. let t = upward l s in mean-inner bf N (omega (zz, neg-is (o₁ e f))) (t .1);
+    }
+pierce e f (inl h) (inl k) = let z : ⊥ = omega (zz, falls e f (omega zz)) in absurd z
+pierce e f (inr h) (inr k) = let z : ⊥ = omega (zz, rises e f (omega zz)) in absurd z
 
--- ---- a middle crossing: a common point strictly inside both
+-- ---- a middle crossing: a common point, strictly inside both where they are turned
 pub record Crossed (e f : Segment) : Type 0 where
   pub P : Off
   pub on-e : On e P
   pub on-f : On f P
-  pub inside-e : Inner e P
-  pub inside-f : Inner f P
+  pub inside-e : Before (e .a) (e .b) → Inner e P
+  pub inside-f : Before (f .a) (f .b) → Inner f P
 
-pub crossed : (e f : Segment) → Before (e .a) (e .b) → Before (f .a) (f .b) → Parted (o₁ e f) (o₂ e f) → Parted (o₁ f e) (o₂ f e) → Crossed e f
-crossed e f be bf s t =
-    let C = pierce e f be bf t (parted-loose s) in
+pub crossed : (e f : Segment) → Parted (o₁ e f) (o₂ e f) → Parted (o₁ f e) (o₂ f e) → Crossed e f
+crossed e f s t =
+    let C = pierce e f t (parted-loose s) in
     record { P = C .P; on-e = C .on-e; on-f = C .on-f; inside-e = C .inside-e; inside-f = C .inside-f s }
 
 -- ---- a point of the grid strictly between the ends, by the order of points
@@ -127,11 +126,11 @@ pub touched : (e f : Segment) → Before (e .a) (e .b) → Before (f .a) (f .b) 
 touched e f be bf o t = go o
   where
     C : Pierced e f
-    C = pierce e f be bf t (one-loose o)
+    C = pierce e f t (one-loose o)
 
     go : OneZero (o₁ e f) (o₂ e f) → Touch e f
-    go (inl z) = a-of-f (z .0) (inside-of (C .inside-e) (at-a e (weights bf (C .on-f)) (C .on-e .line) (z .0) (z .1)))
-    go (inr z) = b-of-f (z .1) (inside-of (C .inside-e) (at-b e (weights bf (C .on-f)) (C .on-e .line) (z .0) (z .1)))
+    go (inl z) = a-of-f (z .0) (inside-of (C .inside-e be) (at-a e (weights bf (C .on-f)) (C .on-e .line) (z .0) (z .1)))
+    go (inr z) = b-of-f (z .1) (inside-of (C .inside-e be) (at-b e (weights bf (C .on-f)) (C .on-e .line) (z .0) (z .1)))
 
 -- ---- all on one line
 abbrev pub Different : Segment → Segment → Type 0

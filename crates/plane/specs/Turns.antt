@@ -76,7 +76,7 @@ module _ (e f : Segment) (h : o₁ e f ≡ pos 0) (k : o₂ e f ≡ pos 0) where
   level-a (by-x g) = vanish (e .b .x .0 -ℤ e .a .x .0) (f .a .x .0 -ℤ e .a .x .0) (f .b .x .0 -ℤ e .a .x .0) (o₂ e f) (o₁ e f) (o₁ f e) (omega (zz, sub-is (e .b .x .0) (e .a .x .0))) k h (by-width e f)
   level-a (by-y _ g) = vanish (e .b .y .0 -ℤ e .a .y .0) (f .a .y .0 -ℤ e .a .y .0) (f .b .y .0 -ℤ e .a .y .0) (o₂ e f) (o₁ e f) (o₁ f e) (omega (zz, sub-is (e .b .y .0) (e .a .y .0))) k h (by-height e f)
 
-  pub level : Before (e .a) (e .b) → (o₁ f e ≡ pos 0) × (o₂ f e ≡ pos 0)
-  level g =
+  pub level-both : Before (e .a) (e .b) → (o₁ f e ≡ pos 0) × (o₂ f e ≡ pos 0)
+  level-both g =
       let z = level-a g in
       (z, omega (zz, four-turns e f, add-is (o₁ f e) (o₁ e f), add-is (o₂ f e) (o₂ e f)))

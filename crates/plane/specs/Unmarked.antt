@@ -6,9 +6,9 @@ use lib.Dec.{T}
 use lib.IntN.{pos}
 use Rattle.geom.specs.declared.Point.{Point}
 use Rattle.geom.specs.declared.Segment.{Segment}
-use Rattle.geom.specs.Plane.{Before, before, between}
-use Rattle.plane.specs.Decide.{both-is, or-is, not-is}
-use Rattle.plane.specs.Order.{before-is}
+use Rattle.geom.specs.Plane.{Before, between}
+use Rattle.geom.specs.Tests.{Decides, yes, no, said, between?}
+use Rattle.plane.specs.Decide.{or, opposite, truth}
 use Rattle.plane.specs.Apart.{Apart, o₁, o₂}
 use Rattle.plane.specs.Meeting.{Meeting, collinear, none, touching, crossing, meeting, Case, all-zero, clear, end-of-f, end-of-e, through, case}
 use Rattle.plane.specs.Pierce.{Inside, Touch, a-of-f, b-of-f, a-of-e, b-of-e, touch-sym, touched, crossed, Different, lined-up}
@@ -32,18 +32,14 @@ unfoldable pub unmarked : Segment → Segment → Bool
 unmarked e f = noMark (meeting e f) (someInside e f)
 
 -- ---- the tests decide
-pub inside-is : (e : Segment) (p : Point) → T (inside e p) ↔ Inside e p
-unfolding between
-inside-is e p =
-    let h = both-is (before (e .a) p) (before p (e .b)) (before-is (e .a) p) (before-is p (e .b)) in
-    (λ t. record { after = h .0 t .0; ahead = h .0 t .1 }, λ i. h .1 (i .after, i .ahead))
+pub inside? : (e : Segment) (p : Point) → Decides (Inside e p) (inside e p)
+inside? e p = said (λ h. record { after = h .0; ahead = h .1 }) (λ i. (i .after, i .ahead)) (between? (e .a) p (e .b))
 
 abbrev pub SomeInside : Segment → Segment → Type 0
 SomeInside e f = (Inside e (f .a) ⊎ Inside e (f .b)) ⊎ (Inside f (e .a) ⊎ Inside f (e .b))
 
-pub some-inside-is : (e f : Segment) → T (someInside e f) ↔ SomeInside e f
-some-inside-is e f = or-is (inside e (f .a) || inside e (f .b)) (inside f (e .a) || inside f (e .b))
-    (or-is (inside e (f .a)) (inside e (f .b)) (inside-is e (f .a)) (inside-is e (f .b))) (or-is (inside f (e .a)) (inside f (e .b)) (inside-is f (e .a)) (inside-is f (e .b)))
+pub some-inside? : (e f : Segment) → Decides (SomeInside e f) (someInside e f)
+some-inside? e f = or (or (inside? e (f .a)) (inside? e (f .b))) (or (inside? f (e .a)) (inside? f (e .b)))
 
 touch-inside : {e f : Segment} → Touch e f → SomeInside e f
 touch-inside (a-of-f z i) = inl (inl i)
@@ -67,16 +63,16 @@ module _ (e f : Segment) (be : Before (e .a) (e .b)) (bf : Before (f .a) (f .b))
       touch (inr (inr i)) = b-of-e h4 i
 
   -- THE THEOREM: no mark exactly if apart
-  pub unmarked-is : Different e f → T (unmarked e f) ↔ Apart e f
+  pub unmarked? : Different e f → Decides (Apart e f) (unmarked e f)
   unfolding unmarked
-  unmarked-is ne = go (case e f be bf)
+  unmarked? ne = go (case e f be bf)
     where
-      go : {m : Meeting} → Case e f m → T (noMark m (someInside e f)) ↔ Apart e f
-      go (all-zero h1 h2 h3 h4) =
-          let n = not-is (someInside e f) (some-inside-is e f) in
-          let c = collinear-apart ne h1 h2 h3 h4 in
-          (λ t. c .0 (n .0 t), λ h. n .1 (c .1 h))
-      go (clear h) = (λ t. h, λ k. tt)
-      go (end-of-f o t) = (λ z. absurd z, λ h. not-touched h (touched e f be bf o t))
-      go (end-of-e t o) = (λ z. absurd z, λ h. not-touched h (touch-sym (touched f e bf be o t)))
-      go (through s t) = (λ z. absurd z, λ h. not-both e f be bf h (cross-meets e f be bf (crossed e f be bf s t)))
+      go : {m : Meeting} → Case e f m → Decides (Apart e f) (noMark m (someInside e f))
+      go (all-zero h1 h2 h3 h4) = let c = collinear-apart ne h1 h2 h3 h4 in said (c .0) (c .1) (opposite (some-inside? e f))
+      go (clear h) = yes h
+      go (end-of-f o t) = no (λ h. not-touched h (touched e f be bf o t))
+      go (end-of-e t o) = no (λ h. not-touched h (touch-sym (touched f e bf be o t)))
+      go (through s t) = no (λ h. not-both e f be bf h (cross-meets e f be bf (crossed e f s t)))
+
+  pub unmarked-is : Different e f → T (unmarked e f) ↔ Apart e f
+  unmarked-is ne = truth (unmarked? ne)
