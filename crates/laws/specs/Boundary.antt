@@ -13,7 +13,8 @@ use Rattle.whole.specs.Sum.{All, none, also, all-map, Sum, sum-same, sum-sub, s
 use Rattle.geom.specs.declared.Point.{Point}
 use Rattle.geom.specs.declared.Segment.{Segment}
 use Rattle.geom.specs.Plane.{samePoint}
-use Rattle.laws.specs.Tests.{point-of, point-yes}
+use Rattle.segm.specs.Balance.{starting, ending, Balanced}
+use Rattle.laws.specs.Points.{point-of, point-yes}
 
 -- what a segment from p to q of weight c gives
 unfoldable pub flow : (Point → ℤ) → ℤ → Point → Point → ℤ
@@ -21,20 +22,6 @@ flow φ c p q = c *ℤ (φ p -ℤ φ q)
 
 unfoldable pub ∂ : (Segment → ℤ) → (Point → ℤ) → List Segment → ℤ
 ∂ w φ L = Sum (λ t. flow φ (w t) (t .a) (t .b)) L
-
--- t starts at p, ends at p
-unfoldable pub starts : Point → Segment → Bool
-starts p t = samePoint p (t .a)
-
-unfoldable pub ends : Point → Segment → Bool
-ends p t = samePoint p (t .b)
-
--- what starts at p weighs as much as what ends there (refusal 6)
-pub record Even (w : Segment → ℤ) (L : List Segment) (p : Point) : Type 0 where
-  pub even : Over w (starts p) L ≡ Over w (ends p) L
-
-pub record Balanced (w : Segment → ℤ) (L : List Segment) : Type 0 where
-  pub at : (p : Point) → Even w L p
 
 -- ---- linear in φ
 lin : (c k fa fb da db : ℤ) → c *ℤ ((fa -ℤ k *ℤ da) -ℤ (fb -ℤ k *ℤ db)) ≡ c *ℤ (fa -ℤ fb) -ℤ k *ℤ (c *ℤ (da -ℤ db))
@@ -57,8 +44,7 @@ unfolding ∂ flow Over
 abbrev one-at : Point → Point → ℤ
 one-at p q = ind (samePoint p q)
 
-∂-at : (w : Segment → ℤ) (L : List Segment) (p : Point) → ∂ w (one-at p) L ≡ Over w (starts p) L -ℤ Over w (ends p) L
-unfolding starts ends
+∂-at : (w : Segment → ℤ) (L : List Segment) (p : Point) → ∂ w (one-at p) L ≡ starting w p L -ℤ ending w p L
 ∂-at w L p = ∂-over w (samePoint p) L
 
 -- ---- clearing φ
@@ -112,7 +98,8 @@ zero-∂ w φ L h = sum-zero (all-map (λ t z. ap₂ (λ s r. w t *ℤ (s -ℤ r
 
 module _ (w : Segment → ℤ) (L : List Segment) (bal : Balanced w L) where
   at-point : (p : Point) → ∂ w (one-at p) L ≡ pos 0
-  at-point p = ∂-at w L p ∙ omega (zz, bal .at p .even, sub-is (Over w (starts p) L) (Over w (ends p) L))
+  unfolding Balanced
+  at-point p = ∂-at w L p ∙ omega (zz, bal p, sub-is (starting w p L) (ending w p L))
 
   no-change : (v k : ℤ) → v -ℤ k *ℤ pos 0 ≡ v
   no-change v k = ring (v ∷ k ∷ []) (search reads depth 20 fits 5000) tt
@@ -130,7 +117,8 @@ module _ (w : Segment → ℤ) (L : List Segment) (bal : Balanced w L) where
   every-φ φ = sym (clears-∂ L φ) ∙ zero-∂ w (clears L φ) L (clears-zero L φ)
 
 from-φ : (w : Segment → ℤ) (L : List Segment) → ((φ : Point → ℤ) → ∂ w φ L ≡ pos 0) → Balanced w L
-from-φ w L h = record { at = λ p. record { even = omega (zz, ∂-at w L p, h (one-at p), sub-is (Over w (starts p) L) (Over w (ends p) L)) } }
+unfolding Balanced
+from-φ w L h p = omega (zz, ∂-at w L p, h (one-at p), sub-is (starting w p L) (ending w p L))
 
 -- THE LAW
 pub balanced-is : (w : Segment → ℤ) (L : List Segment) → Balanced w L ↔ ((φ : Point → ℤ) → ∂ w φ L ≡ pos 0)

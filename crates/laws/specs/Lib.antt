@@ -1,5 +1,33 @@
--- In reading order: tests as equations; the boundary, which is zero exactly where a list is balanced; what a run does keeps it; balance is decided at ends.
-pub mod Tests
+-- In reading order. Balance:
+--   Boundary    it is one equation for every function of points, and holds over every region
+--   Steps       what a run does to a list keeps it
+--   Balance     it is decided at the ends of the list
+-- Masks, of settled and balanced lists:
+--   Settled     forward, and every two apart
+--   Place       which of two apart segments is under the other
+--   Below       one test for what is below an edge, upright or not
+--   Along       the sum below an edge at both of its ends (Req 13, first half)
+--   Mid         and anywhere between
+--   Column      the sums on both sides of a column
+--   Node        what lies below an edge at each of its ends
+--   Fan         the edges at a point, in order
+--   Upright     the two sides of an upright edge (Req 13, second half)
+--   Telescope   rises of any g over a strict total order
+--   Law         the sign law
+--   Live        a sweep need only look at what is live
+pub mod Points
 pub mod Boundary
 pub mod Steps
 pub mod Balance
+pub mod Place
+pub mod Settled
+pub mod Below
+pub mod Along
+pub mod Mid
+pub mod Column
+pub mod Node
+pub mod Fan
+pub mod Upright
+pub mod Telescope
+pub mod Law
+pub mod Live

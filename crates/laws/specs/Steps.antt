@@ -13,7 +13,8 @@ use Rattle.whole.specs.Sum.{assoc, Sum, sum-append, sum-map, sum-same}
 use Rattle.geom.specs.declared.Point.{Point}
 use Rattle.geom.specs.declared.Segment.{Segment}
 use Rattle.geom.specs.Plane.{Side, count, subject, clip, turned}
-use Rattle.laws.specs.Boundary.{flow, ∂, Balanced, balanced-is}
+use Rattle.segm.specs.Balance.{Balanced}
+use Rattle.laws.specs.Boundary.{flow, ∂, balanced-is}
 
 pub keeps : (w v : Segment → ℤ) (K L : List Segment) → ((φ : Point → ℤ) → ∂ w φ K ≡ ∂ v φ L) → Balanced w K → Balanced v L
 keeps w v K L h b = balanced-is v L .1 (λ φ. sym (h φ) ∙ balanced-is w K .0 b φ)
