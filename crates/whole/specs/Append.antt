@@ -1,4 +1,4 @@
--- A list that takes rows one after the other as long as there is room.
+-- A list that takes rows one after the other as long as there is room, and counts those for which there was none: so a promise has no case for a full list.
 use mathlib.Core.Path.{_≡_}
 use mathlib.Core.Bool.{cond}
 use mathlib.Core.List.{List, [], _∷_}

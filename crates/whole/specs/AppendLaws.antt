@@ -1,5 +1,6 @@
--- Laws of a list that takes rows as long as there is room: in two parts, no room left, all in the end; and of rows that are still to
--- come, which is what a loop says of itself. Assumes nothing.
+-- Laws of a list that takes rows as long as there is room: in two parts (`all-append`), no room left (`all-full`), all in the end (`all-front`).
+-- A loop that appends says of itself that the rows still to come make up what is promised: `Coming`, from `coming-all` by `coming-step` to `coming-none`, which
+-- gives the promise `Added`; `coming-under` for a loop in a loop.
 use mathlib.Core.Path.{_≡_, refl, sym, ap, _∙_}
 use mathlib.Core.Bool.{Bool, true, false, cond}
 use mathlib.Core.List.{List, [], _∷_, _++_}
@@ -31,7 +32,8 @@ module _ {A : Type 0} (R : Kind A) where
   length-all room xs k (v ∷ vs) = length-all room (putNext R room xs k v) (suc k) vs ∙ length-next room xs k v
 
   -- in two parts
-  pub all-append : (room : ℕ) (xs : List ℤ) (k : ℕ) (vs ws : List A) → putAll R room xs k (vs ++ ws) ≡ putAll R room (putAll R room xs k vs) (k + length vs) ws
+  pub all-append : (room : ℕ) (xs : List ℤ) (k : ℕ) (vs ws : List A)
+      → putAll R room xs k (vs ++ ws) ≡ putAll R room (putAll R room xs k vs) (k + length vs) ws
   unfolding putAll
   all-append room xs k [] ws = rw (add-zero k)
   all-append room xs k (v ∷ vs) ws =
@@ -50,7 +52,8 @@ module _ {A : Type 0} (R : Kind A) where
   all-flat room xs k [] = rw (take-nil (room - k))
   all-flat room xs k (v ∷ vs) = by-room (ltb k room) refl (all-flat room (putRow R xs k v) (suc k) vs)
     where
-      by-room : (t : Bool) → ltb k room ≡ t → putAll R room (putRow R xs k v) (suc k) vs ≡ sets (putRow R xs k v) (R .width * suc k) (flat R (take (room - suc k) vs))
+      by-room : (t : Bool) → ltb k room ≡ t
+          → putAll R room (putRow R xs k v) (suc k) vs ≡ sets (putRow R xs k v) (R .width * suc k) (flat R (take (room - suc k) vs))
           → putAll R room xs k (v ∷ vs) ≡ sets xs (R .width * k) (flat R (take (room - k) (v ∷ vs)))
       by-room true q more =
           let h : k < room = ltb-true k room q in
@@ -85,45 +88,47 @@ added-none = record { number = omega arith; list = refl }
 
 -- ---- rows still to come: with them the number and the list are those of all
 
-pub record Coming {A : Type 0} (R : Kind A) (room : ℕ) (xs₀ : List ℤ) (count₀ : ℕ) (all : List A) (xs : List ℤ) (count : ℕ) (rest : List A) : Type 0 where
-  pub number : count + length rest ≡ count₀ + length all
-  pub list : putAll R room xs count rest ≡ putAll R room xs₀ count₀ all
-  pub kept : length xs ≡ length xs₀
+pub record Coming {A : Type 0} (R : Kind A) (room : ℕ) (xs₀ : List ℤ) (count₀ : ℕ) (all : List A) (xs : List ℤ) (count : ℕ) (rest : List A) : Type 0
+  where
+    pub number : count + length rest ≡ count₀ + length all
+    pub list : putAll R room xs count rest ≡ putAll R room xs₀ count₀ all
+    pub kept : length xs ≡ length xs₀
 
 pub coming-all : {A : Type 0} {R : Kind A} {room : ℕ} {xs : List ℤ} {count : ℕ} {all : List A} → Coming R room xs count all xs count all
 coming-all = record { number = refl; list = refl; kept = refl }
 
-pub coming-step : {A : Type 0} {R : Kind A} {room : ℕ} {xs₀ : List ℤ} {count₀ : ℕ} {all : List A} {xs : List ℤ} {count : ℕ} {rest vs more : List A} {r : ℕ} {ys : List ℤ}
-    → Coming R room xs₀ count₀ all xs count rest → rest ≡ vs ++ more → Added R room count xs vs r ys → Coming R room xs₀ count₀ all ys r more
-coming-step {R} {room} {xs} {count} {rest} {vs} {more} c e a =
-    record {
-      number = rw (a .number) (omega (arith, c .number, ap length e, length-append vs more));
-      list = rw (a .number, a .list) (sym (all-append R room xs count vs more) ∙ ap (putAll R room xs count) (sym e) ∙ c .list);
-      kept = rw (a .list) (length-all R room xs count vs ∙ c .kept);
-    }
+module _
+    {A : Type 0} {R : Kind A} {room : ℕ} {xs₀ : List ℤ} {count₀ : ℕ} {all : List A} {xs : List ℤ} {count : ℕ} {rest : List A}
+    (c : Coming R room xs₀ count₀ all xs count rest)
+  where
+    pub coming-step : {vs more : List A} {r : ℕ} {ys : List ℤ} → rest ≡ vs ++ more → Added R room count xs vs r ys → Coming R room xs₀ count₀ all ys r more
+    coming-step {vs} {more} e a =
+        record {
+          number = rw (a .number) (omega (arith, c .number, ap length e, length-append vs more));
+          list = rw (a .number, a .list) (sym (all-append R room xs count vs more) ∙ ap (putAll R room xs count) (sym e) ∙ c .list);
+          kept = rw (a .list) (length-all R room xs count vs ∙ c .kept);
+        }
 
-pub coming-none : {A : Type 0} {R : Kind A} {room : ℕ} {xs₀ : List ℤ} {count₀ : ℕ} {all : List A} {xs : List ℤ} {count : ℕ} {rest : List A}
-    → Coming R room xs₀ count₀ all xs count rest → rest ≡ [] → Added R room count₀ xs₀ all count xs
-unfolding putAll
-coming-none {R} {room} {xs} {count} c e =
-    record {
-      number = omega (arith, c .number, ap length e);
-      list = sym (ap (putAll R room xs count) e) ∙ c .list;
-    }
+    pub coming-none : rest ≡ [] → Added R room count₀ xs₀ all count xs
+    unfolding putAll
+    coming-none e =
+        record {
+          number = omega (arith, c .number, ap length e);
+          list = sym (ap (putAll R room xs count) e) ∙ c .list;
+        }
 
--- the same for a part of what is to come
-pub coming-under : {A : Type 0} {R : Kind A} {room : ℕ} {xs₀ : List ℤ} {count₀ : ℕ} {all : List A} {xs₁ : List ℤ} {count₁ : ℕ} {rest₁ part : List A} {xs : List ℤ} {count : ℕ} {rest : List A}
-    → Coming R room xs₀ count₀ all xs₁ count₁ rest₁ → (more : List A) → rest₁ ≡ part ++ more → Coming R room xs₁ count₁ part xs count rest → Coming R room xs₀ count₀ all xs count (rest ++ more)
-coming-under {R} {room} {xs₁} {count₁} {rest₁} {part} {xs} {count} {rest} c more e d =
-    let f : count + length rest ≡ count₁ + length part = d .number in
-    record {
-      number = omega (arith, c .number, ap length e, length-append part more, length-append rest more, d .number);
-      list =
-          all-append R room xs count rest more
-          ∙ ap (λ (l : List ℤ). putAll R room l (count + length rest) more) (d .list)
-          ∙ ap (λ (k : ℕ). putAll R room (putAll R room xs₁ count₁ part) k more) f
-          ∙ sym (all-append R room xs₁ count₁ part more)
-          ∙ ap (putAll R room xs₁ count₁) (sym e)
-          ∙ c .list;
-      kept = d .kept ∙ c .kept;
-    }
+    -- the same for a part of what is to come
+    pub coming-under : {part : List A} {ys : List ℤ} {r : ℕ} {left : List A} (more : List A)
+        → rest ≡ part ++ more → Coming R room xs count part ys r left → Coming R room xs₀ count₀ all ys r (left ++ more)
+    coming-under {part} {ys} {r} {left} more e d =
+        record {
+          number = omega (arith, c .number, ap length e, length-append part more, length-append left more, d .number);
+          list =
+              all-append R room ys r left more
+              ∙ ap (λ (l : List ℤ). putAll R room l (r + length left) more) (d .list)
+              ∙ ap (λ (k : ℕ). putAll R room (putAll R room xs count part) k more) (d .number)
+              ∙ sym (all-append R room xs count part more)
+              ∙ ap (putAll R room xs count) (sym e)
+              ∙ c .list;
+          kept = d .kept ∙ c .kept;
+        }

@@ -1,4 +1,4 @@
--- A sorted list of rows without its repeats.
+-- A sorted list of rows without its repeats: a pass that gives each row which differs from the one before.
 use mathlib.Core.Path.{_≡_}
 use mathlib.Core.Bool.{Bool, cond}
 use mathlib.Core.List.{List, [], _∷_}

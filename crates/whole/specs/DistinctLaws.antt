@@ -1,4 +1,4 @@
--- The first row of a list without repeats is the list's first. Assumes nothing.
+-- The first row of a list without repeats is the list's first: where a loop that drops repeats begins, `going-first` of module PassLaws.
 use mathlib.Core.Path.{_≡_, ap, _∙_}
 use mathlib.Core.Bool.{Bool}
 use mathlib.Core.List.{List, _∷_}

@@ -95,7 +95,11 @@ module _ {A : Type 0} (R : Kind A) where
       let k : length (take w d) ≡ w = length-take-le w d (rw (length-drop n xs) (omega arith)) in
       ap (λ (l : List ℤ). sets xs n l) e
       ∙ sets-eq (take w d) xs n (omega arith)
-      ∙ rw k (ap (λ (l : List ℤ). take n xs ++ take w d ++ l) (sym (drop-drop w n xs)) ∙ append-assoc (take n xs) (take w d) (drop w d) ∙ ap (λ (l : List ℤ). take n xs ++ l) (take-append-drop w d) ∙ take-append-drop n xs)
+      ∙ rw k
+      (ap (λ (l : List ℤ). take n xs ++ take w d ++ l) (sym (drop-drop w n xs))
+      ∙ append-assoc (take n xs) (take w d) (drop w d)
+      ∙ ap (λ (l : List ℤ). take n xs ++ l) (take-append-drop w d)
+      ∙ take-append-drop n xs)
 
   -- ---- reading rows one after the other
 
@@ -113,10 +117,12 @@ module _ {A : Type 0} (R : Kind A) where
   rows-behind p i [] t e = refl
   rows-behind p i (v ∷ vs) t e =
       let r = flat R vs ++ t in
-      let l : p ++ ((R .numbers v ++ flat R vs) ++ t) ≡ (p ++ R .numbers v) ++ r = ap (λ (x : List ℤ). p ++ x) (append-assoc (R .numbers v) (flat R vs) t) ∙ sym (append-assoc p (R .numbers v) r) in
+      let a : (R .numbers v ++ flat R vs) ++ t ≡ R .numbers v ++ r = append-assoc (R .numbers v) (flat R vs) t in
+      let l : p ++ ((R .numbers v ++ flat R vs) ++ t) ≡ (p ++ R .numbers v) ++ r =
+      ap (λ (x : List ℤ). p ++ x) a ∙ sym (append-assoc p (R .numbers v) r) in
       let n : length (p ++ R .numbers v) ≡ w * suc i = length-append p (R .numbers v) ∙ omega (arith, R .sized v) in
       let first : R .make (drop (w * i) (p ++ ((R .numbers v ++ flat R vs) ++ t))) ≡ v =
-      ap (λ (x : List ℤ). R .make x) (drop-at p ((R .numbers v ++ flat R vs) ++ t) (w * i) e ∙ append-assoc (R .numbers v) (flat R vs) t) ∙ R .made v r in
+      ap (R .make) (drop-at p ((R .numbers v ++ flat R vs) ++ t) (w * i) e ∙ a) ∙ R .made v r in
       rw (first, l) (ap (λ (x : List A). v ∷ x) (rows-behind (p ++ R .numbers v) (suc i) vs t n))
 
   pub rows-front : (xs : List ℤ) (vs : List A) → rowsFrom R (front R xs vs) 0 (length vs) ≡ vs
@@ -192,7 +198,8 @@ module _ {A : Type 0} (R : Kind A) where
       let l : w ≤ length d = rw (length-drop (w * i) xs) (omega arith) in
       let e : i + suc n ≡ suc i + n = omega arith in
       let f : w * i + w ≡ w * suc i = omega arith in
-      rw (R .numbered d l, append-assoc (take w d) (flat R (rowsFrom R xs (suc i) n)) (drop (w * (i + suc n)) xs), e, flat-from xs (suc i) n (rw (← e) h))
+      let vs = flat R (rowsFrom R xs (suc i) n) in
+      rw (R .numbered d l, append-assoc (take w d) vs (drop (w * (i + suc n)) xs), e, flat-from xs (suc i) n (rw (← e) h))
       (ap (λ (t : ℕ). take w d ++ drop t xs) (sym f) ∙ ap (λ (t : List ℤ). take w d ++ t) (sym (drop-drop w (w * i) xs)) ∙ take-append-drop w d)
 
   -- a list's own rows

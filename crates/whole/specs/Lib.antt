@@ -20,3 +20,4 @@ pub mod Pass
 pub mod PassLaws
 pub mod Distinct
 pub mod DistinctLaws
+pub mod Examples

@@ -169,8 +169,9 @@ bits-eq {w} {a} {b} p q e = sym (toZ-ofZ w a p) ∙ ap (λ (n : ℕ). toZ w n) e
 
 pub mul-add : (a b c : ℤ) → a *ℤ (b +ℤ c) ≡ a *ℤ b +ℤ a *ℤ c
 mul-add a b c =
+    let s = add-is b c in
     eq-out
-    (omega (arith, mul-is a (b +ℤ c), mul-is a b, mul-is a c, add-is (a *ℤ b) (a *ℤ c), ap (λ t. up a * t) (add-is b c), ap (λ t. dn a * t) (add-is b c)))
+    (omega (arith, mul-is a (b +ℤ c), mul-is a b, mul-is a c, add-is (a *ℤ b) (a *ℤ c), ap (λ t. up a * t) s, ap (λ t. dn a * t) s))
 
 pub mul-assoc : (a b c : ℤ) → (a *ℤ b) *ℤ c ≡ a *ℤ (b *ℤ c)
 mul-assoc a b c =

@@ -1,5 +1,6 @@
--- A pass made in place: n rows are written, the rows from i on are as they were, and what the pass still gives for them, written
--- from n on, makes the whole list. No row is written past the row that was read. Assumes nothing.
+-- A pass made in place, as a loop's invariant `Going`: n rows are written, the rows from i on are as they were, and what the pass still gives for them,
+-- written from n on, makes the whole list. From `going-start` or `going-first`, by `going-skip` or `going-put` for each row, to `done` or `done-put`.
+-- No row is written past the row that was read, n ≤ i, so nothing is lost.
 use mathlib.Core.Path.{_≡_, refl, sym, ap, _∙_}
 use mathlib.Core.List.{List, [], _∷_, _++_}
 use Prim.Native.Nat.{ℕ, _+_, _-_, _*_, _≤_, _<_}
@@ -25,7 +26,8 @@ module _ {A S : Type 0} (R : Kind A) (P : Pass A S) where
   going-start s m i st = record { kept = refl; ahead = λ k l. refl; number = omega arith; list = refl }
 
   -- the first row stands
-  pub going-first : (s : List ℤ) (m i : ℕ) (st : S) → R .width * (0 + 1) ≤ length s → Going s m (rowAt R s 0 ∷ pass P st (rowsFrom R s i (m - i))) s 1 i st
+  pub going-first : (s : List ℤ) (m i : ℕ) (st : S) → R .width * (0 + 1) ≤ length s
+      → Going s m (rowAt R s 0 ∷ pass P st (rowsFrom R s i (m - i))) s 1 i st
   going-first s m i st f =
       let r = pass P st (rowsFrom R s i (m - i)) in
       record {
@@ -36,7 +38,8 @@ module _ {A S : Type 0} (R : Kind A) (P : Pass A S) where
       }
 
   module _ {s₀ : List ℤ} {m : ℕ} {all : List A} {s : List ℤ} {n i : ℕ} {st : S} (g : Going s₀ m all s n i st) where
-    step : (q : A) → i < m → q ≡ rowAt R s i → pass P st (rowsFrom R s₀ i (m - i)) ≡ P .emit st q ++ pass P (P .next st q) (rowsFrom R s₀ (i + 1) (m - (i + 1)))
+    step : (q : A) → i < m → q ≡ rowAt R s i
+        → pass P st (rowsFrom R s₀ i (m - i)) ≡ P .emit st q ++ pass P (P .next st q) (rowsFrom R s₀ (i + 1) (m - (i + 1)))
     unfolding pass
     step q h e = ap (pass P st) (rows-step R s₀ m i h) ∙ rw (sym (e ∙ g .ahead i (omega arith)))
 
@@ -52,7 +55,9 @@ module _ {A S : Type 0} (R : Kind A) (P : Pass A S) where
         }
 
     -- a row that gives one
-    pub going-put : (q v : A) {ys : List ℤ} → i < m → q ≡ rowAt R s i → P .emit st q ≡ v ∷ [] → n ≤ i → ys ≡ putRow R s n v → Going s₀ m all ys (n + 1) (i + 1) (P .next st q)
+    pub going-put : (q v : A) {ys : List ℤ} → i < m → q ≡ rowAt R s i
+        → P .emit st q ≡ v ∷ [] → n ≤ i → ys ≡ putRow R s n v
+        → Going s₀ m all ys (n + 1) (i + 1) (P .next st q)
     going-put q v {ys} h e z l y =
         let r = pass P (P .next st q) (rowsFrom R s₀ (i + 1) (m - (i + 1))) in
         let f : pass P st (rowsFrom R s₀ i (m - i)) ≡ v ∷ r = step q h e ∙ ap (λ (l : List A). l ++ r) z in
@@ -77,7 +82,9 @@ module _ {A S : Type 0} (R : Kind A) (P : Pass A S) where
         (sym k, sym (ap (λ (l : List A). sets s (R .width * n) (flat R l)) e) ∙ g .list ∙ sets-front R s₀ all fits)
 
     -- and where it gives one row more
-    pub done-put : (v : A) {ys : List ℤ} → m ≤ i → P .last st ≡ v ∷ [] → n + 1 ≤ m → R .width * m ≤ length s₀ → ys ≡ putRow R s n v → (n + 1 ≡ length all) × (ys ≡ front R s₀ all)
+    pub done-put : (v : A) {ys : List ℤ} → m ≤ i → P .last st ≡ v ∷ [] → n + 1 ≤ m
+        → R .width * m ≤ length s₀ → ys ≡ putRow R s n v
+        → (n + 1 ≡ length all) × (ys ≡ front R s₀ all)
     unfolding pass flat
     done-put v {ys} h z l f y =
         let e : pass P st (rowsFrom R s₀ i (m - i)) ≡ v ∷ [] = ap (pass P st) (rows-done R s₀ m i h) ∙ z in

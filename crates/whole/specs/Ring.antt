@@ -90,7 +90,8 @@ mul-neg a b =
     let u = neg-is b .0 in
     let d = neg-is b .1 in
     eq-out
-    (omega (arith, mul-is a (negℤ b), mul-is a b, neg-is (a *ℤ b), ap (λ t. up a * t) u, ap (λ t. dn a * t) u, ap (λ t. up a * t) d, ap (λ t. dn a * t) d))
+    (omega
+    (arith, mul-is a (negℤ b), mul-is a b, neg-is (a *ℤ b), ap (λ t. up a * t) u, ap (λ t. dn a * t) u, ap (λ t. up a * t) d, ap (λ t. dn a * t) d))
 
 neg-add : (a b : ℤ) → negℤ (a +ℤ b) ≡ negℤ a +ℤ negℤ b
 neg-add a b = omega (zz, neg-is (a +ℤ b), add-is a b, neg-is a, neg-is b, add-is (negℤ a) (negℤ b))
