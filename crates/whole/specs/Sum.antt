@@ -6,7 +6,7 @@
 -- pass equally often, counted by `ind`. The order of a list never matters to a sum: `sum-perm`.
 use mathlib.Core.Path.{_≡_, refl, sym, _∙_, ap, ap₂}
 use mathlib.Core.List.{List, [], _∷_, _++_, map}
-use mathlib.Core.Bool.{Bool, true, false, not, _&&_}
+use mathlib.Core.Bool.{Bool, true, false, not, cond, _&&_}
 use Prim.Native.Nat.{ℕ, suc, _+_, _*_, _≤_}
 use native.Mathlib.Nat.{suc-mul}
 use native.Mathlib.Omega.{arith}
@@ -16,7 +16,7 @@ use lib.Signed.{_≤ℤ_}
 use Rattle.whole.specs.Order.{zz, up, dn, add-is, mul-is}
 use Rattle.whole.specs.Ring.{ring, reads}
 use Rattle.whole.specs.Fit.{abs-add}
-use Rattle.whole.specs.Sorting.{sum, Perm}
+use Rattle.whole.specs.Sorting.{sum, Perm, insert, sort}
 
 -- ---- members
 
@@ -57,6 +57,25 @@ all-in (there i) (also p h) = all-in i h
 pub all-by : {A : Type 0} {P : A → Type 0} (L : List A) → ((t : A) → In t L → P t) → All P L
 all-by [] f = none
 all-by (t ∷ L) f = also (f t here) (all-by L (λ s i. f s (there i)))
+
+-- of the images, and of a list once it is sorted
+pub all-over : {A B : Type 0} {P : B → Type 0} (h : A → B) {L : List A} → All (λ t. P (h t)) L → All P (map h L)
+all-over h none = none
+all-over h (also p k) = also p (all-over h k)
+
+all-insert : {A : Type 0} {P : A → Type 0} (le : A → A → Bool) (x : A) {L : List A} → P x → All P L → All P (insert le x L)
+unfolding insert
+all-insert le x p none = also p none
+all-insert {P} le x p (also {t = t} {L = L} q h) = go (le x t) (all-insert le x p h)
+  where
+    go : (c : Bool) → All P (insert le x L) → All P (cond c (x ∷ t ∷ L) (t ∷ insert le x L))
+    go true k = also p (also q h)
+    go false k = also q k
+
+pub all-sort : {A : Type 0} {P : A → Type 0} (le : A → A → Bool) {L : List A} → All P L → All P (sort le L)
+unfolding sort
+all-sort le none = none
+all-sort le (also {t = t} p h) = all-insert le t p (all-sort le h)
 
 pub pairs-map : {A : Type 0} {P : A → Type 0} {R S : A → A → Type 0} {L : List A}
     → ((s t : A) → P s → P t → R s t → S s t) → All P L → Pairs R L → Pairs S L
