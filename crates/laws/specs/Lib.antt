@@ -15,6 +15,7 @@
 --   Telescope   rises of any g over a strict total order
 --   Law         the sign law
 --   Live        a sweep need only look at what is live
+--   Example     a list with all of it
 pub mod Points
 pub mod Boundary
 pub mod Steps
@@ -31,3 +32,4 @@ pub mod Upright
 pub mod Telescope
 pub mod Law
 pub mod Live
+pub mod Example
