@@ -25,7 +25,8 @@ pub fn keep(rule: u32, byte: u8) -> Decision
     Decision::Drop
 }
 
-// Whether an overlay rule keeps an edge with this mask: all 112 cases.
+// Whether an overlay rule keeps an edge with this mask: all 112 cases. The rules in order: Subject, Clip, Intersect, Union, Difference,
+// InverseDifference, Xor.
 pub(crate) fn keeps(rule: u32, mask: u8) -> bool
     requires { ⌜ rule < 7 ⌝ }
     requires { ⌜ mask < 16 ⌝ }
