@@ -16,7 +16,7 @@ use Rattle.plane.specs.Meeting.{collinear, none, touching, crossing, mee
 use Rattle.plane.specs.Ends.{apart-ends}
 use Rattle.plane.specs.Exactly.{Meets, apart-or-meets}
 use Rattle.plane.specs.Unmarked.{unmarked}
-use Rattle.plane.specs.Round.{nearest}
+use Rattle.plane.specs.Quotients.{nearest}
 
 -- from (p, q) to (r, s)
 abbrev seg : ℕ → ℕ → ℕ → ℕ → Segment
@@ -34,12 +34,18 @@ flat = seg 0 0 4 0
 abbrev steep : Segment
 steep = seg 0 0 3 5
 
+abbrev upright : Segment
+upright = seg 0 0 0 10
+
+abbrev beside : Segment
+beside = seg 0 4 6 6
+
 -- ---- what the signs make of a pair
 x-pair : meeting rising falling ≡ crossing
 unfolding meetingBy sideOf turn
 x-pair = refl
 
-t-pair : meeting (seg 0 0 0 10) (seg 0 4 6 6) ≡ touching
+t-pair : meeting upright beside ≡ touching
 unfolding meetingBy sideOf turn
 t-pair = refl
 
@@ -72,6 +78,10 @@ v-apart = refl
 
 v-ends : (P : Off) → On flat P → On steep P → EndOf flat P × EndOf steep P
 v-ends P = apart-ends (by-x (omega zz)) (by-x (omega zz)) (when-true (apart? flat steep) v-apart)
+
+t-apart : apart upright beside ≡ false
+unfolding apart turn before samePoint
+t-apart = refl
 
 x-apart : apart rising falling ≡ false
 unfolding apart turn before samePoint

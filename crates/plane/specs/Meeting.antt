@@ -56,11 +56,11 @@ data Couple (o r : ℤ) : ℕ → Bool → Type 0 where
 couple : {o r : ℤ} {s t : ℕ} → Sign o s → Sign r t → Couple o r (s % 2 + t % 2) (eqb s t)
 couple (under h) (under k) = alike (inr (h, k))
 couple (under h) (level k) = one (inr (omega zz, k))
-couple (under h) (over k) = parted (inl (h, k))
+couple (under h) (over k) = parted (inl (omega zz))
 couple (level h) (under k) = one (inl (h, omega zz))
 couple (level h) (level k) = both h k
 couple (level h) (over k) = one (inl (h, omega zz))
-couple (over h) (under k) = parted (inr (h, k))
+couple (over h) (under k) = parted (inr (omega zz))
 couple (over h) (level k) = one (inr (omega zz, k))
 couple (over h) (over k) = alike (inl (h, k))
 

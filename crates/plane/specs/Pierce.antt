@@ -44,12 +44,12 @@ one-loose {p} {q} (inr h) = go (tri p (pos 0))
     go (more k) = inr (omega zz)
 
 upward : {p q : ℤ} → p <ℤ q → Parted p q → (p <ℤ pos 0) × (pos 0 <ℤ q)
-upward l (inl h) = h
+upward l (inl h) = omega zz
 upward l (inr h) = let z : ⊥ = omega zz in absurd z
 
 downward : {p q : ℤ} → q <ℤ p → Parted p q → (pos 0 <ℤ p) × (q <ℤ pos 0)
 downward l (inl h) = let z : ⊥ = omega zz in absurd z
-downward l (inr h) = h
+downward l (inr h) = omega zz
 
 -- ---- the line of f parts the ends of e
 record Pierced (e f : Segment) : Type 0 where
@@ -68,8 +68,8 @@ pierce e f (inl h) (inr k) =
       P = meet e f l;
       on-e = mean-on M;
       on-f = mean-on N;
-      inside-e = λ be. mean-inner be M (omega (zz, neg-is (o₁ f e))) (h .1);
-      inside-f = λ s bf. let t = downward (falls e f l) s in mean-inner bf N (t .0) (omega (zz, neg-is (o₂ e f)));
+      inside-e = λ be. mean-inner be M (omega (zz, neg-is (o₁ f e))) (omega zz);
+      inside-f = λ s bf. let t = downward (falls e f l) s in mean-inner bf N (omega zz) (omega (zz, neg-is (o₂ e f)));
     }
 pierce e f (inr h) (inl k) =
     let l : o₁ e f <ℤ o₂ e f = rises e f (omega zz) in
@@ -79,8 +79,8 @@ pierce e f (inr h) (inl k) =
       P = meet f e l;
       on-e = mean-on M;
       on-f = mean-on N;
-      inside-e = λ be. mean-inner be M (h .0) (omega (zz, neg-is (o₂ f e)));
-      inside-f = λ s bf. let t = upward l s in mean-inner bf N (omega (zz, neg-is (o₁ e f))) (t .1);
+      inside-e = λ be. mean-inner be M (omega zz) (omega (zz, neg-is (o₂ f e)));
+      inside-f = λ s bf. let t = upward l s in mean-inner bf N (omega (zz, neg-is (o₁ e f))) (omega zz);
     }
 pierce e f (inl h) (inl k) = let z : ⊥ = omega (zz, falls e f (omega zz)) in absurd z
 pierce e f (inr h) (inr k) = let z : ⊥ = omega (zz, rises e f (omega zz)) in absurd z

@@ -1,16 +1,14 @@
 -- Rounding. q is near n/d if it is less than 1 from it: then a fraction between two whole numbers stays between them when rounded.
 -- Cut toward zero, and to nearest with a half away from zero, are both near, and each rule settles its q.
-use mathlib.Core.Path.{_≡_, refl, sym, _∙_, ap}
+use mathlib.Core.Path.{_≡_, sym, _∙_, ap}
 use mathlib.Core.List.{[], _∷_}
-use mathlib.Core.Logic.{_≢_, ⊎-elim}
-use Prim.Native.Nat.{ℕ, zero, suc, _+_, _*_, _/_, _%_, _<_, _≤_}
-use native.Mathlib.Nat.{div-add-mod', mod-lt, div-lt-iff-lt-mul}
-use native.Mathlib.Omega.{arith}
-use lib.IntN.{ℤ, pos, negsuc, negℤ, _+ℤ_, _*ℤ_}
-use lib.Signed.{quotZ, _≤ℤ_, _<ℤ_}
+use mathlib.Core.Logic.{⊎-elim}
+use Prim.Native.Nat.{zero, _+_, _<_, _≤_}
+use lib.IntN.{ℤ, pos, negℤ, _+ℤ_, _*ℤ_}
+use lib.Signed.{_≤ℤ_, _<ℤ_}
 use Rattle.whole.specs.Order.{zz, add-is, neg-is, mul-is}
 use Rattle.whole.specs.Ring.{ring, reads}
-use Rattle.whole.specs.Sign.{lt-or-le}
+use Rattle.whole.specs.Sign.{less, lt-or-le}
 use Rattle.plane.specs.Scaled.{scale-lt, unscale-lt}
 
 -- ---- q is less than 1 from n/d
@@ -115,112 +113,3 @@ minus-both k m d n e = left ∙ ap negℤ (sym e) ∙ right
 pub rounded-near : {n k m d q : ℤ} → pos 0 <ℤ d → k *ℤ m ≡ d *ℤ n → Rounded n k q → Near m d q
 rounded-near dp e (over h r) = near-same h dp (sym e) r
 rounded-near {n} {k} {m} {d} dp e (under h r) = near-same (omega (zz, neg-is k)) dp (minus-both k m d n e) r
-
--- ---- the two quotients as functions: n / d of sizes, to nearest, a half up
-abbrev pub near : ℕ → ℕ → ℕ
-near n d = (2 * n + d) / (2 * d)
-
--- n / d to nearest, a half away from zero
-unfoldable pub nearest : ℤ → ℤ → ℤ
-nearest (pos n) (pos d) = pos (near n d)
-nearest (pos n) (negsuc d) = negℤ (pos (near n (suc d)))
-nearest (negsuc n) (pos d) = negℤ (pos (near (suc n) d))
-nearest (negsuc n) (negsuc d) = pos (near (suc n) (suc d))
-
-half-way : (n d q r : ℕ) → q * (2 * d) + r ≡ 2 * n + d → r < 2 * d → (2 * n < 2 * (d * q) + d) × (2 * (d * q) ≤ 2 * n + d)
-half-way n d q r e h = (omega arith, omega arith)
-
-near-ways : (n d : ℕ) → 0 < d → (2 * n < 2 * (d * near n d) + d) × (2 * (d * near n d) ≤ 2 * n + d)
-near-ways n d h = half-way n d (near n d) ((2 * n + d) % (2 * d)) (div-add-mod' (2 * n + d) (2 * d)) (mod-lt (2 * n + d) (omega arith))
-
-twice-minus : (n : ℤ) → pos 2 *ℤ negℤ n ≡ negℤ (pos 2 *ℤ n)
-twice-minus n = ring (n ∷ []) (search reads depth 20 fits 5000) tt
-
-times-minus : (d q : ℤ) → d *ℤ negℤ q ≡ negℤ (d *ℤ q)
-times-minus d q = ring (d ∷ q ∷ []) (search reads depth 20 fits 5000) tt
-
-nearest-flip : {n d q : ℤ} → pos 0 <ℤ n → Nearest n d q → Nearest (negℤ n) d (negℤ q)
-nearest-flip {n} {d} {q} p r = record { from-over = λ h. absurd (no h); from-under = λ _. both }
-  where
-    no : pos 0 ≤ℤ negℤ n → ⊥
-    no h = omega (zz, neg-is n)
-
-    twice : pos 2 *ℤ (d *ℤ negℤ q) ≡ negℤ (pos 2 *ℤ (d *ℤ q))
-    twice = ap (λ z. pos 2 *ℤ z) (times-minus d q) ∙ twice-minus (d *ℤ q)
-
-    both : ((pos 2 *ℤ negℤ n) ≤ℤ (pos 2 *ℤ (d *ℤ negℤ q) +ℤ d)) × ((pos 2 *ℤ (d *ℤ negℤ q)) <ℤ (pos 2 *ℤ negℤ n +ℤ d))
-    both =
-        let t = r .from-over (omega zz) in
-        rw (twice, twice-minus n)
-        (go (pos 2 *ℤ n) (pos 2 *ℤ (d *ℤ q)) (t .0) (t .1))
-      where
-        go : (m k : ℤ) → m <ℤ (k +ℤ d) → k ≤ℤ (m +ℤ d) → (negℤ m ≤ℤ (negℤ k +ℤ d)) × (negℤ k <ℤ (negℤ m +ℤ d))
-        go m k h l = (omega (zz, neg-is m, neg-is k, add-is k d, add-is m d, add-is (negℤ k) d, add-is (negℤ m) d), omega (zz, neg-is m, neg-is k, add-is k d, add-is m d, add-is (negℤ k) d, add-is (negℤ m) d))
-
-near-nat : (n d : ℕ) → Nearest (pos n) (pos (suc d)) (pos (near n (suc d)))
-near-nat n d = let w = near-ways n (suc d) (omega arith) in record { from-over = λ _. (omega zz, omega zz); from-under = λ h. absurd (no h) }
-  where
-    no : pos n <ℤ pos 0 → ⊥
-    no h = omega zz
-
-near-over : (n : ℤ) (d : ℕ) → Nearest n (pos (suc d)) (nearest n (pos (suc d)))
-unfolding nearest
-near-over (pos n) d = near-nat n d
-near-over (negsuc n) d = nearest-flip {n = pos (suc n)} (omega zz) (near-nat (suc n) d)
-
-near-none : (d : ℕ) → 0 < d → near 0 d ≡ 0
-near-none d h =
-    let l : (2 * 0 + d) / (2 * d) < 1 = div-lt-iff-lt-mul {k = 2 * d} {x = 2 * 0 + d} {y = 1} (omega arith) .1 (omega arith) in
-    omega arith
-
-near-under : (n : ℤ) (d : ℕ) → nearest n (negsuc d) ≡ nearest (negℤ n) (pos (suc d))
-unfolding nearest
-near-under (pos zero) d = rw (near-none (suc d) (omega arith))
-near-under (pos (suc n)) d = refl
-near-under (negsuc n) d = refl
-
-pub rounded-nearest : (n k : ℤ) → k ≢ pos 0 → Rounded n k (nearest n k)
-rounded-nearest n (pos zero) h = absurd (h refl)
-rounded-nearest n (pos (suc d)) h = over (omega zz) (nearest-near (omega zz) (near-over n d))
-rounded-nearest n (negsuc d) h = under (omega zz) (rw (near-under n d) (nearest-near (omega zz) (near-over (negℤ n) d)))
-
--- ---- cut toward zero
-cut-step : (n d q r : ℕ) → q * d + r ≡ n → r < d → (d * q ≤ n) × (n < d * q + d)
-cut-step n d q r e h = (omega arith, omega arith)
-
-cut-ways : (n d : ℕ) → 0 < d → (d * (n / d) ≤ n) × (n < d * (n / d) + d)
-cut-ways n d h = cut-step n d (n / d) (n % d) (div-add-mod' n d) (mod-lt n h)
-
-cut-flip : {n d q : ℤ} → pos 0 <ℤ n → Cut n d q → Cut (negℤ n) d (negℤ q)
-cut-flip {n} {d} {q} p r = record { from-over = λ h. absurd (no h); from-under = λ _. both }
-  where
-    no : pos 0 ≤ℤ negℤ n → ⊥
-    no h = omega (zz, neg-is n)
-
-    both : (negℤ n ≤ℤ (d *ℤ negℤ q)) × ((d *ℤ negℤ q) <ℤ (negℤ n +ℤ d))
-    both =
-        let t = r .from-over (omega zz) in
-        (omega (zz, times-minus d q, neg-is n, neg-is (d *ℤ q)), omega (zz, times-minus d q, neg-is n, neg-is (d *ℤ q), add-is (negℤ n) d, add-is (d *ℤ q) d))
-
-cut-nat : (n d : ℕ) → Cut (pos n) (pos (suc d)) (pos (n / suc d))
-cut-nat n d = let w = cut-ways n (suc d) (omega arith) in record { from-over = λ _. (omega zz, omega zz); from-under = λ h. absurd (no h) }
-  where
-    no : pos n <ℤ pos 0 → ⊥
-    no h = omega zz
-
-cut-over : (n : ℤ) (d : ℕ) → Cut n (pos (suc d)) (quotZ n (pos (suc d)))
-cut-over (pos n) d = cut-nat n d
-cut-over (negsuc n) d = cut-flip {n = pos (suc n)} (omega zz) (cut-nat (suc n) d)
-
-none-cut : (d : ℕ) → 0 / suc d ≡ 0
-none-cut d = omega (arith, cut-ways 0 (suc d) (omega arith))
-
-cut-under : (n : ℤ) (d : ℕ) → quotZ n (negsuc d) ≡ quotZ (negℤ n) (pos (suc d))
-cut-under (pos zero) d = rw (none-cut d)
-cut-under (pos (suc n)) d = refl
-cut-under (negsuc n) d = refl
-
-pub rounded-cut : (n k : ℤ) → k ≢ pos 0 → Rounded n k (quotZ n k)
-rounded-cut n (pos zero) h = absurd (h refl)
-rounded-cut n (pos (suc d)) h = over (omega zz) (cut-near (omega zz) (cut-over n d))
-rounded-cut n (negsuc d) h = under (omega zz) (rw (cut-under n d) (cut-near (omega zz) (cut-over (negℤ n) d)))
