@@ -12,7 +12,7 @@ use Rattle.geom.specs.Plane.{point, segment, Side, subject, clip, count, Before
 use Rattle.plane.specs.Decide.{and-is}
 use Rattle.plane.specs.Order.{before-is}
 use Rattle.plane.specs.Apart.{Apart, apart, apart-is}
-use Rattle.segm.specs.Balance.{Balanced, balancedAt, balancedOver, balanced}
+use Rattle.segm.specs.Balance.{Balanced, balancedAt, balancedOver}
 use Rattle.build.specs.Masks.{alive, lean, lower, under, below, bottom, top}
 use Rattle.laws.specs.Balance.{balanced-test}
 use Rattle.laws.specs.Settled.{Settled}

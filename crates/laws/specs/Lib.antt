@@ -15,8 +15,13 @@
 --   Telescope   rises of any g over a strict total order
 --   Law         the sign law
 --   Live        a sweep need only look at what is live
+-- Rays:
+--   Ray         the count of a ray
+--   Foot        the foot of a point on an edge
+--   Beside      the count beside an edge that is not upright is its top or its bottom
 --   Example     a list with all of it
 pub mod Points
+pub mod Ray
 pub mod Boundary
 pub mod Steps
 pub mod Balance
@@ -25,6 +30,8 @@ pub mod Settled
 pub mod Below
 pub mod Along
 pub mod Mid
+pub mod Foot
+pub mod Beside
 pub mod Column
 pub mod Node
 pub mod Fan

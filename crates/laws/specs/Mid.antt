@@ -1,5 +1,5 @@
--- The ray sum anywhere along an edge e: at a point X/d, Y/d strictly within e it is the sum over what passes strictly under
--- that point. The argument of `Along`, with the strip cut at X/d.
+-- The sum below an edge e anywhere along it: at a point X/d, Y/d strictly within e the sum over what passes strictly under that point is the bottom of e.
+-- The argument of `Along`, with the strip cut at X/d.
 use mathlib.Core.Path.{_≡_, sym, _∙_, ap}
 use mathlib.Core.List.{List, [], _∷_}
 use mathlib.Core.Bool.{Bool, not, _&&_, Bool·not-not}
@@ -18,6 +18,7 @@ use Rattle.plane.specs.Apart.{o₁, o₂}
 use Rattle.segm.specs.Balance.{Balanced}
 use Rattle.build.specs.Masks.{bottom}
 use Rattle.laws.specs.Points.{runs}
+use Rattle.laws.specs.Ray.{alive-at, crossed, ray}
 use Rattle.laws.specs.Boundary.{region}
 use Rattle.laws.specs.Place.{Place, level, over-e, under-e, up-l, up-r, dn-l, dn-r, pull-dn, pull-dn′, pull-up, pull-up′, gap, gap≤, weak, weak⁻, left-S, right-E}
 use Rattle.laws.specs.Settled.{In, Settled, place-in}
@@ -36,12 +37,6 @@ cut-e e t P = ring (e .a .x .0 ∷ e .a .y .0 ∷ e .b .x .0 ∷ e .b .y .0 ∷ 
 
 drop : (m k z : ℤ) {n : ℤ} → n ≡ m +ℤ k *ℤ z → z ≡ pos 0 → n ≡ m
 drop m k z e h = omega (zz, add-is m (k *ℤ z), ap (λ s. k *ℤ s) h ∙ *ℤ-zero k)
-
-unfoldable pub alive-at : Off → Segment → Bool
-alive-at P t = leZ (P .d *ℤ t .a .x .0) (P .X) && ltZ (P .X) (P .d *ℤ t .b .x .0)
-
-unfoldable pub under-spot : Off → Segment → Bool
-under-spot P t = alive-at P t && ltZ (pos 0) (cross t P)
 
 unfoldable beneath-to : Segment → Off → Point → Bool
 beneath-to e P q = (ltZ (e .a .x .0) (q .x .0) && leZ (P .d *ℤ q .x .0) (P .X)) && ltZ (against e q) (pos 0)
@@ -122,8 +117,8 @@ module _ (e t : Segment) (P : Off) (i : Inside e P) (run : e .a .x .0 <ℤ e .b 
   further g h = let k : pos 0 ≤ℤ P .d = omega (zz, P .over) in omega (zz, mul-mono (P .d) k g, *ℤ-comm (t .a .x .0) (P .d), *ℤ-comm (t .b .x .0) (P .d))
 
   module _ (s : Bool) (pl : Place e t s) where
-    M-is : under-spot P t ≡ ((r && not y) && s)
-    unfolding under-spot alive-at
+    M-is : crossed P t ≡ ((r && not y) && s)
+    unfolding crossed alive-at
     M-is = and-same (r && ltZ (P .X) (P .d *ℤ t .b .x .0)) (λ h. mid pl (le-of (and-l r (ltZ (P .X) (P .d *ℤ t .b .x .0)) h)) (lt-of (and-r r (ltZ (P .X) (P .d *ℤ t .b .x .0)) h)))
         ∙ ap (λ c. (r && c) && s) (gt-not (P .d *ℤ t .b .x .0) (P .X))
 
@@ -135,7 +130,7 @@ module _ (e t : Segment) (P : Off) (i : Inside e P) (run : e .a .x .0 <ℤ e .b 
     unfolding beneath-to
     E-is = and-same (q && y) (λ h. right-E e t (le-run run) runs-t pl (lt-of (and-l q y h)) (near (t .b .x .0) (le-of (and-r q y h))))
 
-    each : ind (lowerAt t e) +ℤ ind (beneath-to e P (t .a)) ≡ ind (under-spot P t) +ℤ ind (beneath-to e P (t .b))
+    each : ind (lowerAt t e) +ℤ ind (beneath-to e P (t .a)) ≡ ind (crossed P t) +ℤ ind (beneath-to e P (t .b))
     each = rw (A-is e t run runs-t s pl, M-is, S-is, E-is) (tally p q r y s
         (λ h. let k = lt-of {a = e .a .x .0} {b = t .a .x .0} h in let z : e .a .x .0 <ℤ t .b .x .0 = omega zz in lt-true z)
         (λ h. le-true (further runs-t (le-of h)))
@@ -143,14 +138,15 @@ module _ (e t : Segment) (P : Off) (i : Inside e P) (run : e .a .x .0 <ℤ e .b 
         (λ h. le-true (far (t .b .x .0) (lt-not h))))
 
 -- THE THEOREM
-pub anywhere : (w : Segment → ℤ) (L : List Segment) → Settled L → Balanced w L → (e : Segment) → In e L → e .a .x .0 <ℤ e .b .x .0 → (P : Off) → Inside e P → bottom w L e ≡ Over w (under-spot P) L
+pub anywhere : (w : Segment → ℤ) (L : List Segment) → Settled L → Balanced w L → (e : Segment) → In e L → e .a .x .0 <ℤ e .b .x .0 → (P : Off) → Inside e P → bottom w L e ≡ ray w L P
+unfolding ray
 anywhere w L st bal e i run P ins =
     omega (
       zz,
       bottom-is w L e (by-x run),
       region w L bal (beneath-to e P),
-      over-two w (λ t. lowerAt t e) (λ t. beneath-to e P (t .a)) (under-spot P) (λ t. beneath-to e P (t .b))
+      over-two w (λ t. lowerAt t e) (λ t. beneath-to e P (t .a)) (crossed P) (λ t. beneath-to e P (t .b))
           (all-map (λ t h. each e t P ins run (runs (h .0)) (h .1 .0) (h .1 .1)) (all-both (st .forward) (place-in i (st .apart)))),
       add-is (Over w (λ t. lowerAt t e) L) (Over w (λ t. beneath-to e P (t .a)) L),
-      add-is (Over w (under-spot P) L) (Over w (λ t. beneath-to e P (t .b)) L),
+      add-is (Over w (crossed P) L) (Over w (λ t. beneath-to e P (t .b)) L),
     )

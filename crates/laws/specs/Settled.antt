@@ -1,8 +1,11 @@
 -- Settled lists: every segment runs forward and every two are apart. Of a segment of the list each other is placed.
-use mathlib.Core.Path.{_≡_, refl, subst}
-use mathlib.Core.List.{List, _∷_}
+use mathlib.Core.Path.{_≡_, refl, _∙_, ap, subst}
+use mathlib.Core.List.{List, [], _∷_}
+use mathlib.Core.Bool.{Bool, true, false}
 use mathlib.Core.Logic.{_⊎_, inl, inr}
-use Rattle.whole.specs.Sum.{All, also, all-map, Pairs, pair}
+use lib.IntN.{ℤ, pos, _+ℤ_, _*ℤ_}
+use Rattle.whole.specs.Ring.{ring, reads}
+use Rattle.whole.specs.Sum.{All, also, all-map, all-both, Pairs, pair, Sum, ind, Over, over-none}
 use Rattle.geom.specs.declared.Segment.{Segment}
 use Rattle.geom.specs.Plane.{Before}
 use Rattle.plane.specs.Apart.{Apart, apart-sym}
@@ -34,3 +37,15 @@ place-of (inr h) = placed h
 
 pub place-in : {e : Segment} {L : List Segment} → In e L → Pairs Apart L → All (Placed e) L
 place-in i p = all-map (λ t h. place-of h) (meets-in i p)
+
+-- ---- a test that only e passes
+one-and : (a b : ℤ) → b ≡ pos 0 → a *ℤ pos 1 +ℤ b ≡ a
+one-and a b e = rw e (ring (a ∷ []) (search reads depth 20 fits 5000) tt)
+
+none-and : (a b c : ℤ) → b ≡ c → a *ℤ pos 0 +ℤ b ≡ c
+none-and a b c e = rw e (ring (a ∷ c ∷ []) (search reads depth 20 fits 5000) tt)
+
+pub only : (w : Segment → ℤ) (f : Segment → Bool) (e : Segment) {L : List Segment} → f e ≡ true → All (λ t. Apart e t → f t ≡ false) L → In e L → Pairs Apart L → Over w f L ≡ w e
+unfolding Over Sum
+only w f e it (also n ns) (here {L = L}) (pair h k) = ap (λ c. w e *ℤ ind c +ℤ Over w f L) it ∙ one-and (w e) (Over w f L) (over-none w (all-map (λ t m. m .0 (m .1)) (all-both ns h)))
+only w f e it (also n ns) (there {t = t} {L = L} i) (pair h k) = ap (λ c. w t *ℤ ind c +ℤ Over w f L) (n (apart-sym (all-in i h))) ∙ none-and (w t) (Over w f L) (w e) (only w f e it ns i k)

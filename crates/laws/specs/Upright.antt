@@ -2,25 +2,24 @@
 -- e.b on the right, what lies below it on the left runs under e.b on the left (nothing meets e within); the two differ, over
 -- the column of e.b, by the upright edges that come to e.b or pass it, and in a settled list that is e alone.
 use mathlib.Core.Path.{_≡_, sym, _∙_, ap}
-use mathlib.Core.List.{List, [], _∷_}
+use mathlib.Core.List.{List}
 use mathlib.Core.Bool.{Bool, true, false, _&&_}
 use mathlib.Core.Logic.{_⊎_, inl, inr}
-use lib.IntN.{ℤ, pos, _+ℤ_, _*ℤ_}
+use lib.IntN.{ℤ, pos}
 use lib.Signed.{leZ, ltZ, _≤ℤ_, _<ℤ_}
 use Rattle.whole.specs.Order.{zz, add-is}
-use Rattle.whole.specs.Ring.{ring, reads}
-use Rattle.whole.specs.Sum.{all-map, all-both, Pairs, pair, Sum, ind, Over, over-same, over-none}
+use Rattle.whole.specs.Sum.{all-of, all-map, all-both, Over, over-same}
 use Rattle.whole.specs.Test.{is-true, is-false, and-l, and-r, and-same, tests, lt-of, le-of, eqZ-is}
 use Rattle.geom.specs.declared.Point.{Point}
 use Rattle.geom.specs.declared.Segment.{Segment}
 use Rattle.geom.specs.Plane.{sameZ, Before, by-x, by-y}
 use Rattle.plane.specs.Order.{before-irr}
-use Rattle.plane.specs.Apart.{UpTo, Apart, apart-sym, o₁, o₂}
+use Rattle.plane.specs.Apart.{UpTo, Apart, o₁, o₂}
 use Rattle.segm.specs.Balance.{Balanced}
 use Rattle.build.specs.Masks.{bottom, top}
 use Rattle.laws.specs.Points.{then-upto, runs}
 use Rattle.laws.specs.Place.{up-left-a, up-left-b}
-use Rattle.laws.specs.Settled.{In, here, there, all-in, Settled, Meets, meets-in, place-of}
+use Rattle.laws.specs.Settled.{In, Settled, Meets, meets-in, place-of, only}
 use Rattle.laws.specs.Below.{lean-up, bottom-is}
 use Rattle.laws.specs.Along.{reaches}
 use Rattle.laws.specs.Column.{under-right, under-left, upto, columns}
@@ -33,18 +32,6 @@ below-left t e = reaches (e .a .x .0) t && leZ (pos 0) (o₁ t e)
 
 unfoldable pub left-side : (Segment → ℤ) → List Segment → Segment → ℤ
 left-side w L e = Over w (λ t. below-left t e) L
-
-one-and : (a b : ℤ) → b ≡ pos 0 → a *ℤ pos 1 +ℤ b ≡ a
-one-and a b e = rw e (ring (a ∷ []) (search reads depth 20 fits 5000) tt)
-
-none-and : (a b c : ℤ) → b ≡ c → a *ℤ pos 0 +ℤ b ≡ c
-none-and a b c e = rw e (ring (a ∷ c ∷ []) (search reads depth 20 fits 5000) tt)
-
--- a test that in a settled list only e passes
-only : (w : Segment → ℤ) (P : Segment → Bool) (e : Segment) {L : List Segment} → P e ≡ true → ((t : Segment) → Apart e t → P t ≡ false) → In e L → Pairs Apart L → Over w P L ≡ w e
-unfolding Over Sum
-only w P e yes′ no′ (here {L = L}) (pair h k) = ap (λ c. w e *ℤ ind c +ℤ Over w P L) yes′ ∙ one-and (w e) (Over w P L) (over-none w (all-map no′ h))
-only w P e yes′ no′ (there {t = t} {L = L} i) (pair h k) = ap (λ c. w t *ℤ ind c +ℤ Over w P L) (no′ t (apart-sym (all-in i h))) ∙ none-and (w t) (Over w P L) (w e) (only w P e yes′ no′ i k)
 
 module _ (e : Segment) (u : e .a .x .0 ≡ e .b .x .0) (up : e .a .y .0 <ℤ e .b .y .0) where
   self : upto (e .b) e ≡ true
@@ -103,7 +90,7 @@ left-is-top w L st bal e i u up =
       bottom-is w L e (by-y u up),
       over-same w (all-map (λ t m. up-each e t u up (m .0) (m .1)) near),
       columns w L (λ q. q) bal (st .forward) (e .b),
-      only w (upto (e .b)) e (self e u up) (other e u up) i (st .apart),
+      only w (upto (e .b)) e (self e u up) (all-of L (other e u up)) i (st .apart),
       add-is (Over w (under-right (e .b)) L) (Over w (upto (e .b)) L),
       add-is (bottom w L e) (w e),
     )
