@@ -1,7 +1,7 @@
 -- A mark is a row of three numbers: segment, x, y ("Input and answer").
 use mathlib.Core.Path.{_≡_, refl}
 use mathlib.Core.List.{List, [], _∷_}
-use Prim.Native.Nat.{ℕ, _≤_}
+use Prim.Native.Nat.{ℕ, _+_, _≤_}
 use native.Mathlib.Omega.{arith}
 use lib.IntN.{ℤ, pos}
 use lib.ListN.{length, getD, take}
@@ -14,6 +14,10 @@ numbers m = m .segment ∷ m .point .x .0 ∷ m .point .y .0 ∷ []
 
 abbrev pub make : List ℤ → Mark
 make l = record { segment = getD l 0 (pos 0); point = point (getD l 1 (pos 0)) (getD l 2 (pos 0)) }
+
+-- the mark whose three numbers start at place k
+abbrev pub markFrom : List ℤ → ℕ → Mark
+markFrom l k = record { segment = getD l k (pos 0); point = point (getD l (k + 1) (pos 0)) (getD l (k + 2) (pos 0)) }
 
 pub numbered : (l : List ℤ) → 3 ≤ length l → numbers (make l) ≡ take 3 l
 numbered [] h = absurd (omega arith)

@@ -32,3 +32,10 @@ pub struct Mark {
     pub segment: i32,
     pub point: Point,
 }
+
+// What tidying answers: how many marks are left.
+pub enum Tidied {
+    Distinct(usize),
+    // The list has not so many marks (1).
+    Short,
+}

@@ -1,2 +1,4 @@
 // Where segments cross (split/cross_solver.rs), the look over every pair, and splitting at the marks (split/solver.rs).
 pub mod answer;
+mod mark;
+pub mod tidy;
