@@ -19,9 +19,11 @@
 --   Ray         the count of a ray
 --   Foot        the foot of a point on an edge
 --   Beside      the count beside an edge that is not upright is its top or its bottom
+--   Scale       edges scaled
+--   Level       the level stretch from an upright edge to a point
+--   BesideUpright  the count beside an upright edge is its top or its bottom
 --   Example     a list with all of it
 pub mod Points
-pub mod Ray
 pub mod Boundary
 pub mod Steps
 pub mod Balance
@@ -29,9 +31,8 @@ pub mod Place
 pub mod Settled
 pub mod Below
 pub mod Along
+pub mod Ray
 pub mod Mid
-pub mod Foot
-pub mod Beside
 pub mod Column
 pub mod Node
 pub mod Fan
@@ -39,4 +40,9 @@ pub mod Upright
 pub mod Telescope
 pub mod Law
 pub mod Live
+pub mod Foot
+pub mod Beside
+pub mod Scale
+pub mod Level
+pub mod BesideUpright
 pub mod Example

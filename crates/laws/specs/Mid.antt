@@ -35,7 +35,7 @@ cut-e : (e t : Segment) (P : Off) → (P .d *ℤ e .b .x .0 -ℤ P .X) *ℤ o₁
 unfolding turn cross
 cut-e e t P = ring (e .a .x .0 ∷ e .a .y .0 ∷ e .b .x .0 ∷ e .b .y .0 ∷ t .a .x .0 ∷ t .a .y .0 ∷ t .b .x .0 ∷ t .b .y .0 ∷ P .X ∷ P .Y ∷ P .d ∷ []) (search reads depth 40 fits 50000) tt
 
-drop : (m k z : ℤ) {n : ℤ} → n ≡ m +ℤ k *ℤ z → z ≡ pos 0 → n ≡ m
+pub drop : (m k z : ℤ) {n : ℤ} → n ≡ m +ℤ k *ℤ z → z ≡ pos 0 → n ≡ m
 drop m k z e h = omega (zz, add-is m (k *ℤ z), ap (λ s. k *ℤ s) h ∙ *ℤ-zero k)
 
 unfoldable beneath-to : Segment → Off → Point → Bool

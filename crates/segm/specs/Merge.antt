@@ -1,11 +1,19 @@
 -- Merging ("Merge", and refusal 9): equal neighbours become one, with summed counts.
 use mathlib.Core.Bool.{Bool, true, false, not, cond, _&&_, _||_}
 use mathlib.Core.List.{List, [], _∷_}
+use Prim.Native.Nat.{ℕ, _*_}
+use lib.Dec.{ltb}
 use lib.IntN.{ℤ, pos, negsuc, _+ℤ_}
+use lib.ListN.{length, replicate}
 use lib.Signed.{ltZ}
-use Rattle.geom.specs.declared.Segment.{Segment}
-use Rattle.geom.specs.Plane.{sameZ, samePoint, segment}
+use Rattle.whole.specs.Kind.{rowsFrom, front}
 use Rattle.whole.specs.Sum.{keep}
+use Rattle.geom.specs.declared.Segment.{Segment}
+use Rattle.geom.specs.Limits.{segmentLimit}
+use Rattle.geom.specs.Plane.{sameZ, samePoint, segment}
+use Rattle.geom.specs.Rows.{segments}
+use Rattle.segm.specs.declared.Merged.{Merged}
+use Rattle.segm.specs.declared.Merged.the-variants.{Joined, Same, Short, TooBig}
 
 -- equal: the same ends
 unfoldable pub sameEnds : Segment → Segment → Bool
@@ -56,3 +64,36 @@ anyFar (g ∷ L) = (isFar (g .subject .0) || isFar (g .clip .0)) || anyFar L
 
 abbrev pub tooBig : List Segment → Bool
 tooBig L = anyFar (groups L)
+
+-- ---- merging the first n rows of a lent list
+
+-- refusal 1: n over the limit, or not as many rows
+unfoldable pub tooShort : List ℤ → ℕ → Bool
+tooShort xs n = ltb segmentLimit n || ltb (length xs) (6 * n)
+
+-- true (Joined) exactly if there are equal neighbours, and how many segments are left
+abbrev pub answerOf : List Segment → Merged
+answerOf L = cond (tooBig L) TooBig (cond (paired L) (Joined (length (merged L))) (Same (length (merged L))))
+
+-- the merged rows at the front and all else as it was; wholly zero after 9
+abbrev pub listOf : List ℤ → List Segment → List ℤ
+listOf xs L = cond (tooBig L) (replicate (length xs) (pos 0)) (front segments xs (merged L))
+
+unfoldable pub mergeAnswer : List ℤ → ℕ → Merged
+mergeAnswer xs n = cond (tooShort xs n) Short (answerOf (rowsFrom segments xs 0 n))
+
+unfoldable pub mergeList : List ℤ → ℕ → List ℤ
+mergeList xs n = cond (tooShort xs n) xs (listOf xs (rowsFrom segments xs 0 n))
+
+-- document 01's number of each answer, and whether it returns true
+abbrev pub mergeNumber : Merged → ℕ
+mergeNumber (Joined m) = 0
+mergeNumber (Same m) = 0
+mergeNumber Short = 1
+mergeNumber TooBig = 9
+
+abbrev pub mergeTrue : Merged → Bool
+mergeTrue (Joined m) = true
+mergeTrue (Same m) = false
+mergeTrue Short = false
+mergeTrue TooBig = false

@@ -249,6 +249,15 @@ unfolding keep-if
 keep p [] = []
 keep p (t ∷ L) = keep-if (p t) t (keep p L)
 
+-- one member more, which passes or does not
+pub keep-yes : {A : Type 0} (p : A → Bool) (t : A) (L : List A) → p t ≡ true → keep p (t ∷ L) ≡ t ∷ keep p L
+unfolding keep keep-if
+keep-yes p t L e = rw e
+
+pub keep-no : {A : Type 0} (p : A → Bool) (t : A) (L : List A) → p t ≡ false → keep p (t ∷ L) ≡ keep p L
+unfolding keep keep-if
+keep-no p t L e = rw e
+
 sum-keep-if : {A : Type 0} (f : A → ℤ) (c : Bool) (t : A) (K : List A) {s : ℤ} → Sum f K ≡ s → Sum f (keep-if c t K) ≡ f t *ℤ ind c +ℤ s
 unfolding Sum keep-if
 sum-keep-if f true t K {s} e = ap (λ r. f t +ℤ r) e ∙ one-more (f t) s
