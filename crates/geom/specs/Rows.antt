@@ -6,13 +6,13 @@ use native.Mathlib.Omega.{arith}
 use lib.IntN.{ℤ, pos}
 use lib.ListN.{length, getD, set, take}
 use Rattle.whole.specs.Kind.{Kind}
+use Rattle.geom.specs.declared.Point.{Point}
 use Rattle.geom.specs.declared.Segment.{Segment}
 use Rattle.geom.specs.Plane.{point, segment}
 
--- the segment whose six numbers start at place k
-abbrev pub segmentFrom : List ℤ → ℕ → Segment
-segmentFrom l k =
-    segment (point (getD l k (pos 0)) (getD l (k + 1) (pos 0))) (point (getD l (k + 2) (pos 0)) (getD l (k + 3) (pos 0))) (getD l (k + 4) (pos 0)) (getD l (k + 5) (pos 0))
+-- the point whose two numbers start at place k
+abbrev pub pointFrom : List ℤ → ℕ → Point
+pointFrom l k = point (getD l k (pos 0)) (getD l (k + 1) (pos 0))
 
 -- the list with two numbers stored from place k on
 abbrev pub two : List ℤ → ℕ → ℤ → ℤ → List ℤ

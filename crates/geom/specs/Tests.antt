@@ -1,17 +1,18 @@
 -- Each test of Plane decides its sentence: true where the sentence holds, false where it does not.
-use mathlib.Core.Path.{_≡_, refl, ap}
+use mathlib.Core.Path.{_≡_, refl, sym, ap}
 use mathlib.Core.Bool.{Bool, true, false, cond, _&&_}
 use mathlib.Core.Logic.{_↔_, _⊎_, inl, inr, ⊎-elim}
 use Prim.Native.Nat.{ℕ, _^_}
-use native.Mathlib.Omega.{arith}
+use lib.Dec.{T}
 use lib.IntN.{ℤ, pos, negℤ}
 use lib.Signed.{ltZ, leZ, _≤ℤ_, _<ℤ_}
-use Rattle.whole.specs.Order.{zz, lt-true, lt-false, le-true, le-false, mag-in, mag-out, nlt-in}
+use Rattle.whole.specs.Order.{zz, mag-in, mag-out, nlt-in}
 use Rattle.whole.specs.Sign.{Tri, less, same, more, tri}
+use Rattle.whole.specs.Test.{of-true, lt-of, lt-not, le-of, le-not-of}
 use Rattle.geom.specs.declared.Point.{Point}
 use Rattle.geom.specs.declared.Segment.{Segment}
-use Rattle.geom.specs.Plane.{OnGrid, GridPoint, GridSegment, onGrid, gridPoint, gridSegment, Before, by-x, by-y, before, between, sameZ, samePoint, upright}
-use Rattle.geom.specs.Order.{point-eq}
+use Rattle.geom.specs.Plane.{OnGrid, GridPoint, GridSegment, onGrid, gridPoint, gridSegment, Before, by-x, by-y, before, between, sameZ, samePoint, upright, turn, signOf, sideOf}
+use Rattle.geom.specs.Order.{point-eq, before-differ}
 
 -- the test t decides the sentence P
 pub data Decides (P : Type 0) : Bool → Type 0 where
@@ -28,11 +29,15 @@ fails (no f) g = refl
 
 pub when-true : {P : Type 0} {t : Bool} → Decides P t → t ≡ true → P
 when-true (yes h) e = h
-when-true (no f) e = let z : _≡_ {A = ℕ} 0 1 = cc in absurd (omega arith)
+when-true (no f) e = absurd (of-true e)
 
 pub when-false : {P : Type 0} {t : Bool} → Decides P t → t ≡ false → P → ⊥
-when-false (yes h) e p = let z : _≡_ {A = ℕ} 0 1 = cc in omega arith
+when-false (yes h) e p = of-true (sym e)
 when-false (no f) e p = f p
+
+pub test-is : {P : Type 0} {t : Bool} → Decides P t → (T t ↔ P)
+test-is (yes h) = (λ u. h, λ p. tt)
+test-is (no f) = (λ u. absurd u, f)
 
 -- ---- tests made of tests
 
@@ -66,15 +71,15 @@ pub lt? : (a b : ℤ) → Decides (a <ℤ b) (ltZ a b)
 lt? a b = go (ltZ a b) refl
   where
     go : (t : Bool) → ltZ a b ≡ t → Decides (a <ℤ b) t
-    go true e = yes (omega (zz, lt-true a b e))
-    go false e = no (λ h. omega (zz, lt-false a b e))
+    go true e = yes (lt-of e)
+    go false e = no (λ h. omega (zz, lt-not {a = a} {b = b} e))
 
 pub le? : (a b : ℤ) → Decides (a ≤ℤ b) (leZ a b)
 le? a b = go (leZ a b) refl
   where
     go : (t : Bool) → leZ a b ≡ t → Decides (a ≤ℤ b) t
-    go true e = yes (omega (zz, le-true a b e))
-    go false e = no (λ h. omega (zz, le-false a b e))
+    go true e = yes (le-of e)
+    go false e = no (λ h. omega (zz, le-not-of {a = a} {b = b} e))
 
 pub same? : (a b : ℤ) → Decides (a ≡ b) (sameZ a b)
 same? a b = said (λ h. omega (zz, h .0, h .1)) (λ e. (omega zz, omega zz)) (and (le? a b) (le? b a))
@@ -123,6 +128,29 @@ pub samePoint? : (p q : Point) → Decides (p ≡ q) (samePoint p q)
 unfolding samePoint
 samePoint? p q = said (λ h. point-eq (h .0) (h .1)) (λ e. (ap (λ t. t .x .0) e, ap (λ t. t .y .0) e)) (both (same? (p .x .0) (q .x .0)) (same? (p .y .0) (q .y .0)))
 
+-- one of the two tests at most
+pub before-not-same : (p q : Point) → before p q ≡ true → samePoint p q ≡ false
+before-not-same p q e = fails (samePoint? p q) (before-differ (when-true (before? p q) e))
+
 pub upright? : (v : Segment) → Decides (v .a .x .0 ≡ v .b .x .0) (upright v)
 unfolding upright
 upright? v = same? (v .a .x .0) (v .b .x .0)
+
+-- ---- the side: which sign a code stands for
+
+pub data Sign (z : ℤ) : ℕ → Type 0 where
+  under : z <ℤ pos 0 → Sign z 0
+  zero : z ≡ pos 0 → Sign z 1
+  over : pos 0 <ℤ z → Sign z 2
+
+pub sign? : (z : ℤ) → Sign z (signOf z)
+sign? z = go (lt? z (pos 0)) (lt? (pos 0) z)
+  where
+    go : {a b : Bool} → Decides (z <ℤ pos 0) a → Decides (pos 0 <ℤ z) b → Sign z (cond a 0 (cond b 2 1))
+    go (yes h) d = under h
+    go (no f) (yes h) = over h
+    go (no f) (no g) = zero (omega (zz, nlt-in f, nlt-in g))
+
+pub side? : (o p q : Point) → Sign (turn o p q) (sideOf o p q)
+unfolding sideOf
+side? o p q = sign? (turn o p q)

@@ -9,7 +9,7 @@ ghost use mir.Syntax.{w64};
 ghost use mir.Val.{SFits};
 ghost use Rattle.whole.specs.Kind.{rowAt, putRow};
 ghost use Rattle.geom.specs.Plane.{OnGrid, GridPoint, onGrid, gridPoint, gridSegment, before as isBefore, between as isBetween, sameZ, samePoint, Countable, negCount, turned as turnedOf, turn as turnOf, sideOf};
-ghost use Rattle.geom.specs.Rows.{segments, segmentFrom, two};
+ghost use Rattle.geom.specs.Rows.{segments, pointFrom, two};
 
 pub struct Coord(pub i32);
 
@@ -32,25 +32,26 @@ pub fn read(rows: &[i32], i: usize) -> Segment
     requires { ⌜ 6 * i + 6 ≤ length (now rows) ⌝ }
     ensures { λ r. ⌜ r ≡ rowAt segments (now (rows .entry)) i ⌝ }
 {
-    read_from(rows, 6 * i)
+    let k = 6 * i;
+    let a = point_from(rows, k);
+    let b = point_from(rows, k + 2);
+    let subject = Count(rows[k + 4]);
+    let clip = Count(rows[k + 5]);
+    Segment {
+        a,
+        b,
+        subject,
+        clip,
+    }
 }
 
-// The segment whose six numbers start at place k.
-fn read_from(rows: &[i32], k: usize) -> Segment
-    requires { ⌜ k + 6 ≤ length (now rows) ⌝ }
-    ensures { λ r. ⌜ r ≡ segmentFrom (now (rows .entry)) k ⌝ }
+fn point_from(rows: &[i32], k: usize) -> Point
+    requires { ⌜ k + 2 ≤ length (now rows) ⌝ }
+    ensures { λ r. ⌜ r ≡ pointFrom (now (rows .entry)) k ⌝ }
 {
-    Segment {
-        a: Point {
-            x: Coord(rows[k]),
-            y: Coord(rows[k + 1]),
-        },
-        b: Point {
-            x: Coord(rows[k + 2]),
-            y: Coord(rows[k + 3]),
-        },
-        subject: Count(rows[k + 4]),
-        clip: Count(rows[k + 5]),
+    Point {
+        x: Coord(rows[k]),
+        y: Coord(rows[k + 1]),
     }
 }
 
