@@ -1,17 +1,17 @@
 -- The pass of `merge_rows`: what holds whenever its loop is tested, and one law for each event (a row joins the group, the group is closed, a total is outside,
 -- the end). A law takes what the calls ensure, so that the proof of the function only cites.
 use mathlib.Core.Path.{_≡_, refl, sym, ap, _∙_, subst}
-use mathlib.Core.Bool.{Bool, true, false, cond, _||_}
+use mathlib.Core.Bool.{Bool, true, false, cond}
 use mathlib.Core.List.{List, [], _∷_}
 use Prim.Native.Nat.{ℕ, _+_, _*_, _-_, _≤_, _<_}
 use native.Mathlib.Nat.{sub-zero}
 use native.Mathlib.Omega.{arith}
-use lib.IntN.{ℤ, pos, negsuc, natAbs}
+use lib.IntN.{ℤ, pos, natAbs}
 use lib.ListN.{length, replicate}
 use lib.Seq.{sets}
 use mir.Syntax.{w32}
 use mir.Val.{SFits}
-use Rattle.whole.specs.Order.{lt-false, sfits-out}
+use Rattle.whole.specs.Fit.{fits-abs}
 use Rattle.whole.specs.Kind.{rowAt, putRow, rowsFrom, front, flat}
 use Rattle.whole.specs.KindLaws.{rows-step, rows-done}
 use Rattle.whole.specs.PassLaws.{Going, going-start, going-skip, going-put, done, done-put}
@@ -21,22 +21,14 @@ use Rattle.segm.specs.declared.Group.{Group}
 use Rattle.segm.specs.declared.Merged.{Merged}
 use Rattle.segm.specs.declared.Merged.the-variants.{Joined, Same, TooBig}
 use Rattle.segm.specs.Merge.{sameEnds, groups, merged, paired, isFar, tooBig, answerOf, listOf}
+use Rattle.segm.specs.MergeLaws.{neither, not-far}
 use Rattle.segm.specs.Group.{joint, alone, withOne, farGroup, isDropped, left}
 use Rattle.segm.proofs.Still.{merging, farOn, pairedOn, far-end, far-same, far-next, far-here, paired-end, paired-same, paired-next, pass-merged}
 
 -- ---- totals that are not outside fit 32 bits
 
-neither : (a b : Bool) → a || b ≡ false → (a ≡ false) × (b ≡ false)
-neither true b e = let z : _≡_ {A = ℕ} 0 1 = cc in absurd (omega arith)
-neither false b e = (refl, e)
-
 near : (z : ℤ) → isFar z ≡ false → SFits w32 z
-unfolding isFar
-near z e =
-    let h = neither _ _ e in
-    let low = lt-false z (negsuc 2147483646) (h .0) in
-    let high = lt-false (pos 2147483647) z (h .1) in
-    sfits-out z (omega arith) (omega arith)
+near z e = fits-abs w32 z (omega (arith, not-far z e))
 
 pub totals-fit : (g : Group) → farGroup g ≡ false → SFits w32 (g .subject) × SFits w32 (g .clip)
 unfolding farGroup
