@@ -14,6 +14,7 @@ use Rattle.geom.specs.declared.Point.{Point}
 use Rattle.geom.specs.declared.Segment.{Segment}
 use Rattle.geom.specs.Plane.{Side, count, subject, clip, turned}
 use Rattle.segm.specs.Balance.{Balanced}
+use Rattle.segm.specs.Order.{SameEnds}
 use Rattle.laws.specs.Boundary.{flow, ∂, balanced-is}
 
 pub keeps : (w v : Segment → ℤ) (K L : List Segment) → ((φ : Point → ℤ) → ∂ w φ K ≡ ∂ v φ L) → Balanced w K → Balanced v L
@@ -44,9 +45,6 @@ flow-cut φ c p m q = ring (c ∷ φ p ∷ φ m ∷ φ q ∷ []) (search reads d
 pub data Carries (w : Segment → ℤ) (c : ℤ) (p q : Point) (t : Segment) : Type 0 where
   straight : t .a ≡ p → t .b ≡ q → w t ≡ c → Carries w c p q t
   reversed : t .a ≡ q → t .b ≡ p → w t ≡ negℤ c → Carries w c p q t
-
-abbrev pub SameEnds : Segment → Segment → Type 0
-SameEnds s t = (s .a ≡ t .a) × (s .b ≡ t .b)
 
 -- a chain of pieces from p to q, each of which carries c
 pub data Chain (w : Segment → ℤ) (c : ℤ) : Point → List Segment → Point → Type 0 where
