@@ -3,13 +3,10 @@
 -- weight 0, to rearrange. So a list that is made so of a balanced one is balanced (`keeps`).
 use mathlib.Core.Path.{_≡_, refl, sym, _∙_, ap, ap₂}
 use mathlib.Core.List.{List, [], _∷_, _++_, map}
-use Prim.Native.Nat.{_+_}
-use native.Mathlib.Omega.{arith}
 use lib.IntN.{ℤ, pos, negℤ, _+ℤ_}
-use Rattle.whole.specs.Order.{up, dn, eq-out, add-is}
 use Rattle.whole.specs.Ring.{ring, reads}
-use Rattle.whole.specs.Sorting.{sum, Perm}
-use Rattle.whole.specs.Sum.{assoc, Sum, sum-append, sum-map, sum-same}
+use Rattle.whole.specs.Sorting.{Perm}
+use Rattle.whole.specs.Sum.{assoc, Sum, sum-append, sum-map, sum-same, sum-perm}
 use Rattle.geom.specs.declared.Point.{Point}
 use Rattle.geom.specs.declared.Segment.{Segment}
 use Rattle.geom.specs.Plane.{Side, count, subject, clip, turned}
@@ -98,15 +95,7 @@ module _ (w : Segment → ℤ) (φ : Point → ℤ) where
   unfolding ∂ Sum
   ∂-dropped e L h = ap (λ z. z +ℤ ∂ w φ L) (ap (λ c. flow φ c (e .a) (e .b)) h ∙ flow-zero φ (e .a) (e .b)) ∙ nothing (∂ w φ L)
 
--- ---- rearranging: a sum of whole numbers is a sum of what is over 0, less one of what is under
-sum-parts : {A : Type 0} (f : A → ℤ) (L : List A) → up (Sum f L) + sum (λ t. dn (f t)) L ≡ sum (λ t. up (f t)) L + dn (Sum f L)
-unfolding Sum
-sum-parts f [] = refl
-sum-parts f (t ∷ L) = omega (arith, sum-parts f L, add-is (f t) (Sum f L))
-
-pub sum-perm : {A : Type 0} (f : A → ℤ) (K L : List A) → Perm K L → Sum f K ≡ Sum f L
-sum-perm f K L h = eq-out (omega (arith, sum-parts f K, sum-parts f L, h (λ t. dn (f t)), h (λ t. up (f t))))
-
+-- ---- rearranging
 pub ∂-perm : (w : Segment → ℤ) (φ : Point → ℤ) (K L : List Segment) → Perm K L → ∂ w φ K ≡ ∂ w φ L
 unfolding ∂
 ∂-perm w φ K L h = sum-perm (λ t. flow φ (w t) (t .a) (t .b)) K L h

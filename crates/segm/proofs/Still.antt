@@ -8,6 +8,7 @@ use Rattle.whole.specs.Sum.{keep, keep-yes, keep-no}
 use Rattle.geom.specs.declared.Segment.{Segment}
 use Rattle.segm.specs.declared.Group.{Group}
 use Rattle.segm.specs.Merge.{sameEnds, plus, groupsFrom, isEmpty, mergedFrom, pairedFrom, anyFar}
+use Rattle.segm.specs.MergeLaws.{or-true, or-false}
 use Rattle.segm.specs.Group.{joint, alone, withOne, farGroup, isDropped, left}
 
 abbrev pub merging : Pass Segment Group
@@ -52,18 +53,10 @@ module _ (g : Group) where
   pub far-end : farOn g [] ≡ farGroup g
   unfolding groupsFrom anyFar farGroup
   far-end = or-false (farGroup g)
-    where
-      or-false : (b : Bool) → b || false ≡ b
-      or-false true = refl
-      or-false false = refl
 
   pub paired-end : pairedOn g [] ≡ g .met
   unfolding pairedFrom
-  paired-end = go (g .met)
-    where
-      go : (b : Bool) → b || false ≡ b
-      go true = refl
-      go false = refl
+  paired-end = or-false (g .met)
 
   module _ (v : Segment) (L : List Segment) where
     module _ (e : sameEnds (joint g) v ≡ true) where
@@ -81,11 +74,7 @@ module _ (g : Group) where
 
       pub paired-same : pairedOn g (v ∷ L) ≡ true
       unfolding pairedFrom
-      paired-same = rw e (go (g .met))
-        where
-          go : (b : Bool) → b || true ≡ true
-          go true = refl
-          go false = refl
+      paired-same = rw e (or-true (g .met))
 
     module _ (e : sameEnds (joint g) v ≡ false) where
       still-next : still g (v ∷ L) ≡ left g ++ still (alone v (g .met)) L

@@ -1,14 +1,17 @@
--- What merging gives, from what the groups of equal neighbours have: merged L is some of `groups L` in their order. So its ends are ends of L
+-- When merging answers which number (`enough`, `merge-says`), and what it gives, from what the groups of equal neighbours have: merged L is some of `groups L` in their order. So its ends are ends of L
 -- (`merged-ends`), it is no longer (`merged-length`), its counts are within ±(2^31 - 1) unless 9 is answered (`merged-near`), and of a list that stands by
 -- its ends no two are left with the same ends (`merged-strict`).
 use mathlib.Core.Path.{_≡_, refl}
 use mathlib.Core.Bool.{Bool, true, false, not, cond, _||_}
 use mathlib.Core.List.{List, [], _∷_}
 use mathlib.Core.Logic.{inl, inr}
-use Prim.Native.Nat.{ℕ, suc, _≤_}
+use Prim.Native.Nat.{ℕ, suc, _*_, _≤_, _<_}
 use native.Mathlib.Omega.{arith}
 use lib.IntN.{ℤ, pos, negsuc, natAbs}
 use lib.ListN.{length}
+use lib.Signed.{ltZ}
+use lib.Dec.{ltb}
+use borrow.Author.Tests.{lt-ltb, le-ltb}
 use Rattle.whole.specs.Order.{split, lt-false}
 use Rattle.whole.specs.Sign.{abs-is}
 use Rattle.whole.specs.Sum.{All, none, also, all-map, Pairs, no-pair, pair, keep, keep-yes, keep-no, all-keep, pairs-keep}
@@ -16,13 +19,56 @@ use Rattle.geom.specs.declared.Point.{Point}
 use Rattle.geom.specs.declared.Segment.{Segment}
 use Rattle.geom.specs.Plane.{Side, subject, clip, count}
 use Rattle.geom.specs.Tests.{Decides, and, when-false, samePoint?}
+use Rattle.whole.specs.Kind.{rowsFrom}
+use Rattle.geom.specs.Limits.{segmentLimit}
+use Rattle.geom.specs.Rows.{segments}
+use Rattle.segm.specs.declared.Merged.the-variants.{Joined, Same, Short, TooBig}
 use Rattle.segm.specs.Forward.{sorted}
-use Rattle.segm.specs.Merge.{sameEnds, plus, groupsFrom, groups, isEmpty, mergedFrom, merged, isFar, anyFar, tooBig}
+use Rattle.segm.specs.Merge.{sameEnds, plus, groupsFrom, groups, isEmpty, mergedFrom, merged, paired, isFar, anyFar, tooBig, tooShort, mergeAnswer, mergeNumber, mergeTrue}
 use Rattle.segm.specs.Order.{EndsBefore, by-a, by-b, SameEnds, EndsUpto, ends-trans, by-ends}
 
 pub sameEnds? : (u v : Segment) → Decides (SameEnds u v) (sameEnds u v)
 unfolding sameEnds
 sameEnds? u v = and (samePoint? (u .a) (v .a)) (samePoint? (u .b) (v .b))
+
+pub or-true : (b : Bool) → b || true ≡ true
+or-true true = refl
+or-true false = refl
+
+pub or-false : (b : Bool) → b || false ≡ b
+or-false true = refl
+or-false false = refl
+
+pub neither : (a b : Bool) → a || b ≡ false → (a ≡ false) × (b ≡ false)
+neither true b e = let z : _≡_ {A = ℕ} 0 1 = cc in absurd (omega arith)
+neither false b e = (refl, e)
+
+-- ---- the answers
+
+module _ (xs : List ℤ) (n : ℕ) where
+  pub over-limit : segmentLimit < n → tooShort xs n ≡ true
+  unfolding tooShort
+  over-limit h = rw (lt-ltb segmentLimit n h)
+
+  pub no-room : length xs < 6 * n → tooShort xs n ≡ true
+  unfolding tooShort
+  no-room h = rw (lt-ltb (length xs) (6 * n) h) (or-true (ltb segmentLimit n))
+
+  pub enough : n ≤ segmentLimit → 6 * n ≤ length xs → tooShort xs n ≡ false
+  unfolding tooShort
+  enough h k = rw (le-ltb segmentLimit n h, le-ltb (length xs) (6 * n) k)
+
+  -- 1 where the list is too short, else 9 where a total is outside, else 0; true exactly if neither and there is an equal pair
+  pub merge-says : (mergeNumber (mergeAnswer xs n) ≡ cond (tooShort xs n) 1 (cond (tooBig (rowsFrom segments xs 0 n)) 9 0))
+      × (mergeTrue (mergeAnswer xs n) ≡ cond (tooShort xs n) false (cond (tooBig (rowsFrom segments xs 0 n)) false (paired (rowsFrom segments xs 0 n))))
+  unfolding mergeAnswer
+  merge-says = let L = rowsFrom segments xs 0 n in go (tooShort xs n) (tooBig L) (paired L) (length (merged L))
+    where
+      go : (s t p : Bool) (k : ℕ) → let r = cond s Short (cond t TooBig (cond p (Joined k) (Same k))) in (mergeNumber r ≡ cond s 1 (cond t 9 0)) × (mergeTrue r ≡ cond s false (cond t false p))
+      go true t p k = (refl, refl)
+      go false true p k = (refl, refl)
+      go false false true k = (refl, refl)
+      go false false false k = (refl, refl)
 
 -- ---- some of the groups, in their order
 
@@ -118,14 +164,10 @@ merged-length (u ∷ L) = length-from u L
 abbrev pub Near : Segment → Type 0
 Near t = (d : Side) → natAbs (count d t) ≤ 2147483647
 
-pub neither : (a b : Bool) → a || b ≡ false → (a ≡ false) × (b ≡ false)
-neither true b e = let z : _≡_ {A = ℕ} 0 1 = cc in absurd (omega arith)
-neither false b e = (refl, e)
-
 pub not-far : (z : ℤ) → isFar z ≡ false → natAbs z ≤ 2147483647
 unfolding isFar
 not-far z e =
-    let h = neither _ _ e in
+    let h = neither (ltZ z (negsuc 2147483646)) (ltZ (pos 2147483647) z) e in
     omega (arith, abs-is z, split z, lt-false z (negsuc 2147483646) (h .0), lt-false (pos 2147483647) z (h .1))
 
 near-all : (L : List Segment) → anyFar L ≡ false → All Near L

@@ -1,36 +1,15 @@
 -- `segm::merge` meets its contract: the two tests are `tooShort`, an empty list stays, and else `merge_rows` promises the rest.
 use mathlib.Core.Path.{_≡_, refl, sym}
-use mathlib.Core.Bool.{Bool, true, false, _||_}
 use mathlib.Core.List.{List}
-use Prim.Native.Nat.{ℕ, _*_, _≤_, _<_}
 use native.Mathlib.Omega.{arith}
-use lib.Dec.{ltb}
 use lib.IntN.{ℤ}
-use lib.ListN.{length}
 use borrow.Author.Needs.{needs}
-use borrow.Author.Tests.{lt-ltb, le-ltb}
 use Rattle.whole.specs.Kind.{rowsFrom, front, flat}
 use Rattle.segm.specs.declared.Merged.the-variants.{Same}
-use Rattle.segm.specs.Merge.{groups, merged, paired, anyFar, tooShort, mergeAnswer, mergeList}
+use Rattle.segm.specs.MergeLaws.{over-limit, no-room, enough}
+use Rattle.segm.specs.Merge.{groups, merged, paired, anyFar, mergeAnswer, mergeList}
 use Rattle.segm.proofs.merge.Statement.{statement}
 use Rattle.segm.proofs.merge.Tie as tie
-
-module _ (xs : List ℤ) (n : ℕ) where
-  over-limit : 2048 < n → tooShort xs n ≡ true
-  unfolding tooShort
-  over-limit h = rw (lt-ltb 2048 n h)
-
-  no-room : length xs < 6 * n → tooShort xs n ≡ true
-  unfolding tooShort
-  no-room h = rw (lt-ltb (length xs) (6 * n) h) (or-true (ltb 2048 n))
-    where
-      or-true : (b : Bool) → b || true ≡ true
-      or-true true = refl
-      or-true false = refl
-
-  enough : n ≤ 2048 → 6 * n ≤ length xs → tooShort xs n ≡ false
-  unfolding tooShort
-  enough h k = rw (le-ltb 2048 n h, le-ltb (length xs) (6 * n) k)
 
 nothing : (xs : List ℤ) → (mergeAnswer xs 0 ≡ Same 0) × (mergeList xs 0 ≡ xs)
 unfolding mergeAnswer mergeList rowsFrom groups anyFar paired merged front flat
