@@ -13,21 +13,14 @@ use Rattle.whole.specs.Test.{of-true, and-l, and-r, and-same, lt-true, lt-of, l
 use Rattle.geom.specs.declared.Point.{Point}
 use Rattle.geom.specs.declared.Segment.{Segment}
 use Rattle.geom.specs.Plane.{against, by-x, subject, clip}
-use Rattle.plane.specs.Apart.{o₂}
 use Rattle.segm.specs.Balance.{Balanced}
-use Rattle.build.specs.Masks.{alive, lean, lower, bottom}
+use Rattle.build.specs.Masks.{alive, bottom}
+use Rattle.laws.specs.Sides.{reaches, below-end, bottom-end}
 use Rattle.laws.specs.Points.{runs}
 use Rattle.laws.specs.Boundary.{region}
 use Rattle.laws.specs.Place.{Place, left-A, right-Z, left-S, right-E}
 use Rattle.laws.specs.Settled.{In, Settled, place-in}
 use Rattle.laws.specs.Below.{lowerAt, bottom-is}
-
--- ---- the mirror of document 01: alive just left of x, below e just left of its right end
-unfoldable pub reaches : ℤ → Segment → Bool
-reaches x t = ltZ (t .a .x .0) x && leZ x (t .b .x .0)
-
-unfoldable pub below-end : Segment → Segment → Bool
-below-end t e = reaches (e .b .x .0) t && lower (o₂ t e) (lean e t)
 
 -- the open strip of e, under e
 unfoldable pub beneath : Segment → Point → Bool
@@ -109,10 +102,6 @@ along w L e g bal fs =
       add-is (Over w (λ t. lowerAt (moved g t) e) L) (Over w (λ t. beneath e (g (t .a))) L),
       add-is (Over w (λ t. below-end (moved g t) e) L) (Over w (λ t. beneath e (g (t .b))) L),
     )
-
--- the sum counted just left of e's right end
-unfoldable pub bottom-end : (Segment → ℤ) → List Segment → Segment → ℤ
-bottom-end w L e = Over w (λ t. below-end t e) L
 
 -- Req 13, first half
 pub both-ends : (w : Segment → ℤ) (L : List Segment) → Settled L → Balanced w L → (e : Segment) → In e L → e .a .x .0 <ℤ e .b .x .0 → bottom w L e ≡ bottom-end w L e

@@ -16,15 +16,16 @@ use Rattle.geom.specs.Off.{Off, cross, On, rising}
 use Rattle.plane.specs.Apart.{Apart}
 use Rattle.segm.specs.Balance.{Balanced}
 use Rattle.build.specs.Masks.{alive, lean, lower, bottom, top}
-use Rattle.laws.specs.Points.{runs}
+use Rattle.laws.specs.Sides.{reaches, below-end, below-left, left-side}
 use Rattle.laws.specs.Ray.{alive-at, crossed, ray}
+use Rattle.laws.specs.Points.{runs}
 use Rattle.laws.specs.Place.{left-A, up-left-a}
 use Rattle.laws.specs.Settled.{In, Settled, Meets, meets-in, place-of}
 use Rattle.laws.specs.Below.{lowerAt, lean-up, bottom-is}
-use Rattle.laws.specs.Along.{reaches, below-end, beneath, Fair, along}
+use Rattle.laws.specs.Along.{beneath, Fair, along}
 use Rattle.laws.specs.Column.{under-right, under-left, upto, columns}
 use Rattle.laws.specs.Node.{no-factor, upright-zero}
-use Rattle.laws.specs.Upright.{below-left, left-side, left-is-top}
+use Rattle.laws.specs.Upright.{left-is-top}
 use Rattle.laws.specs.Scale.{scaled, against-scaled, alive-scaled, reaches-scaled, alive-of, reaches-of}
 use Rattle.laws.specs.Level.{Level, Free, onto, pierced, bridge, none-right, none-left, at-point, fair-to, seen-P, at-P}
 

@@ -16,8 +16,10 @@ use Rattle.geom.specs.declared.Segment.{Segment}
 use Rattle.geom.specs.Plane.{turn, against, sameZ, Before, by-x, by-y}
 use Rattle.segm.specs.Balance.{Balanced}
 use Rattle.build.specs.Masks.{alive}
+use Rattle.laws.specs.Sides.{reaches}
 use Rattle.laws.specs.Boundary.{region}
-use Rattle.laws.specs.Along.{reaches, moved}
+use Rattle.laws.specs.Along.{moved}
+use Rattle.laws.specs.Foot.{u, v}
 
 -- t passes strictly under p, on the right and on the left of its column
 unfoldable pub under-right : Point → Segment → Bool

@@ -15,14 +15,16 @@ use Rattle.geom.specs.declared.Segment.{Segment}
 use Rattle.geom.specs.Plane.{Before, by-x, by-y, Side, count, subject, clip}
 use Rattle.segm.specs.Balance.{Balanced}
 use Rattle.build.specs.Masks.{bottom, top}
+use Rattle.laws.specs.Sides.{below-end, bottom-end}
 use Rattle.laws.specs.Points.{point-of}
 use Rattle.laws.specs.Telescope.{rise, Lower, telescope}
 use Rattle.laws.specs.Settled.{In, here, there, Settled, meets-in}
 use Rattle.laws.specs.Below.{lowerAt, bottom-is}
-use Rattle.laws.specs.Along.{below-end, bottom-end, both-ends}
+use Rattle.laws.specs.Along.{both-ends}
 use Rattle.laws.specs.Column.{under-right, under-left, upto, base-right, columns}
 use Rattle.laws.specs.Node.{starts, ends, start-lt, end-lt, start-each, end-each, up-each, up-none}
 use Rattle.laws.specs.Fan.{start-strict, end-strict, start-told, end-told}
+use Rattle.laws.specs.Foot.{u}
 
 all-self : {A : Type 0} (L : List A) → All (λ t. In t L) L
 all-self [] = none

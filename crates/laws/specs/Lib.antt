@@ -1,4 +1,8 @@
--- In reading order. Balance:
+-- In reading order. What the laws speak of, beside balance (segm) and the masks (build):
+--   Sides       the sums at the right end of an edge, and on the left of an upright one (Req 13)
+--   Ray         the count of a ray
+--   Computed    a list, and these sums of it
+-- Balance:
 --   Boundary    it is one equation for every function of points, and holds over every region
 --   Steps       what a run does to a list keeps it
 --   Prepared    the list of the first look is balanced exactly if the given one is
@@ -17,13 +21,15 @@
 --   Law         the sign law
 --   Live        a sweep need only look at what is live
 -- Rays:
---   Ray         the count of a ray
 --   Foot        the foot of a point on an edge
 --   Beside      the count beside an edge that is not upright is its top or its bottom
 --   Scale       edges scaled
 --   Level       the level stretch from an upright edge to a point
 --   BesideUpright  the count beside an upright edge is its top or its bottom
---   Example     a list with all of it
+--   Example     a list that meets the hypotheses
+pub mod Sides
+pub mod Ray
+pub mod Computed
 pub mod Points
 pub mod Boundary
 pub mod Steps
@@ -33,7 +39,6 @@ pub mod Place
 pub mod Settled
 pub mod Below
 pub mod Along
-pub mod Ray
 pub mod Mid
 pub mod Column
 pub mod Node

@@ -17,8 +17,8 @@ use Rattle.geom.specs.Off.{Off, cross}
 use Rattle.plane.specs.Apart.{o₁, o₂}
 use Rattle.segm.specs.Balance.{Balanced}
 use Rattle.build.specs.Masks.{bottom}
-use Rattle.laws.specs.Points.{runs}
 use Rattle.laws.specs.Ray.{alive-at, crossed, ray}
+use Rattle.laws.specs.Points.{runs}
 use Rattle.laws.specs.Boundary.{region}
 use Rattle.laws.specs.Place.{Place, level, over-e, under-e, up-l, up-r, dn-l, dn-r, pull-dn, pull-dn′, pull-up, pull-up′, gap, gap≤, weak, weak⁻, left-S, right-E}
 use Rattle.laws.specs.Settled.{In, Settled, place-in}

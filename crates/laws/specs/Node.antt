@@ -20,12 +20,13 @@ use Rattle.plane.specs.Order.{point-eq, before-irr, before-trans}
 use Rattle.plane.specs.Turns.{turn-self, turn-end, turn-cyclic}
 use Rattle.plane.specs.Apart.{UpTo, OneSide, OneZero, Apart, in-line, off-e, off-f, at-ends, apart-sym, o₁, o₂}
 use Rattle.build.specs.Masks.{alive, lean, lower}
+use Rattle.laws.specs.Sides.{reaches, below-end}
 use Rattle.laws.specs.Points.{point-of, point-yes, point-no, never-upto, then-upto, runs}
 use Rattle.laws.specs.Place.{cut-a, cut-b, lean-is, lean-neg, left-A, up-B}
 use Rattle.laws.specs.Settled.{Meets, place-of}
 use Rattle.laws.specs.Below.{lowerAt, lean-up, lower-level, lower-up, lower-dn}
-use Rattle.laws.specs.Along.{reaches, below-end}
 use Rattle.laws.specs.Column.{under-right, under-left, upto, at-a, turn-at-a, turn-at-b}
+use Rattle.laws.specs.Foot.{u, v}
 
 -- ---- two positive weights
 no-side : (u v : ℤ) {A B : ℤ} → pos 0 <ℤ u → pos 0 <ℤ v → u *ℤ A +ℤ v *ℤ B ≡ pos 0 → OneSide A B → ⊥

@@ -17,7 +17,8 @@ use Rattle.geom.specs.Off.{Off, cross, On, Within, rising, falling}
 use Rattle.plane.specs.Turns.{grid}
 use Rattle.plane.specs.Apart.{Apart}
 use Rattle.build.specs.Masks.{alive}
-use Rattle.laws.specs.Along.{reaches, moved}
+use Rattle.laws.specs.Sides.{reaches}
+use Rattle.laws.specs.Along.{moved}
 use Rattle.laws.specs.Node.{no-factor}
 use Rattle.laws.specs.Foot.{le-scaled, lt-scaled, u, v}
 

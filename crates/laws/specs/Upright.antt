@@ -17,21 +17,15 @@ use Rattle.plane.specs.Order.{before-irr}
 use Rattle.plane.specs.Apart.{UpTo, Apart, o₁, o₂}
 use Rattle.segm.specs.Balance.{Balanced}
 use Rattle.build.specs.Masks.{bottom, top}
+use Rattle.laws.specs.Sides.{reaches, below-left, left-side}
 use Rattle.laws.specs.Points.{then-upto, runs}
 use Rattle.laws.specs.Place.{up-left-a, up-left-b}
 use Rattle.laws.specs.Settled.{In, Settled, Meets, meets-in, place-of, only}
 use Rattle.laws.specs.Below.{lean-up, bottom-is}
-use Rattle.laws.specs.Along.{reaches}
 use Rattle.laws.specs.Column.{under-right, under-left, upto, columns}
 use Rattle.laws.specs.Node.{up-each, upright-zero}
 use Rattle.laws.specs.Fan.{no-shared}
-
--- height at most e.a.y, on the left of the column
-unfoldable pub below-left : Segment → Segment → Bool
-below-left t e = reaches (e .a .x .0) t && leZ (pos 0) (o₁ t e)
-
-unfoldable pub left-side : (Segment → ℤ) → List Segment → Segment → ℤ
-left-side w L e = Over w (λ t. below-left t e) L
+use Rattle.laws.specs.Foot.{u}
 
 module _ (e : Segment) (u : e .a .x .0 ≡ e .b .x .0) (up : e .a .y .0 <ℤ e .b .y .0) where
   self : upto (e .b) e ≡ true
