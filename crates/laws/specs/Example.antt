@@ -1,4 +1,4 @@
--- The list of `Computed` is settled and balanced: the hypotheses of the laws are met, and so are those of the rays, beside an edge that runs right and beside
+-- The list of `Edges` is settled and balanced: the hypotheses of the laws are met, and so are those of the rays, beside an edge that runs right and beside
 -- one that is upright.
 use mathlib.Core.List.{List, [], _∷_}
 use mathlib.Core.Bool.{Bool, true, _&&_}
@@ -11,7 +11,7 @@ use Rattle.plane.specs.Decide.{and-is}
 use Rattle.plane.specs.Order.{before-is}
 use Rattle.plane.specs.Apart.{Apart, apart, apart-is}
 use Rattle.segm.specs.Balance.{Balanced, balancedAt, balancedOver}
-use Rattle.laws.specs.Computed.{running, standing, edges}
+use Rattle.laws.specs.Edges.{running, standing, edges}
 use Rattle.laws.specs.Balance.{balanced-test}
 use Rattle.laws.specs.Settled.{Settled}
 use Rattle.laws.specs.Law.{signOfSides, sides-law}

@@ -1,7 +1,7 @@
 -- In reading order. What the laws speak of, beside balance (segm) and the masks (build):
+--   Edges       a list to compute on
 --   Sides       the sums at the right end of an edge, and on the left of an upright one (Req 13)
 --   Ray         the count of a ray
---   Computed    a list, and these sums of it
 -- Balance:
 --   Boundary    it is one equation for every function of points, and holds over every region
 --   Steps       what a run does to a list keeps it
@@ -26,10 +26,10 @@
 --   Scale       edges scaled
 --   Level       the level stretch from an upright edge to a point
 --   BesideUpright  the count beside an upright edge is its top or its bottom
---   Example     a list that meets the hypotheses
+--   Example     lists that meet the hypotheses
+pub mod Edges
 pub mod Sides
 pub mod Ray
-pub mod Computed
 pub mod Points
 pub mod Boundary
 pub mod Steps
