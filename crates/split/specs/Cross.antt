@@ -1,12 +1,13 @@
 -- How two segments cross ("Crossing").
 use mathlib.Core.Bool.{Bool, true, false, not, cond, _&&_, _||_}
-use Prim.Native.Nat.{ℕ, suc, _+_, _*_, _/_, _%_, min}
+use Prim.Native.Nat.{ℕ, _+_, _*_, _%_, min}
 use lib.Dec.{ltb, leb, eqb}
-use lib.IntN.{ℤ, pos, negsuc, negℤ, natAbs, _+ℤ_, _-ℤ_, _*ℤ_}
+use lib.IntN.{ℤ, pos, natAbs, _+ℤ_, _-ℤ_, _*ℤ_}
 use lib.Signed.{quotZ}
 use Rattle.geom.specs.declared.Point.{Point}
 use Rattle.geom.specs.declared.Segment.{Segment}
 use Rattle.geom.specs.Plane.{point, sameZ, samePoint, between, upright, gridSegment, against, sideOf}
+unfoldable pub use Rattle.plane.specs.Quotients.{nearest}
 use Rattle.split.specs.declared.answer.Kind.{Kind}
 use Rattle.split.specs.declared.answer.Kind.the-variants.{Pure, TargetEnd, OtherEnd, Overlay}
 use Rattle.split.specs.declared.answer.Crossing.{Crossing}
@@ -33,18 +34,7 @@ collinearMask t o = bit (inner o (t .a)) + 2 * bit (inner o (t .b)) + 4 * bit (i
 unfoldable pub level : Segment → Bool
 level v = sameZ (v .a .y .0) (v .b .y .0)
 
--- n / d of sizes, to nearest, a half up
-abbrev pub near : ℕ → ℕ → ℕ
-near n d = (2 * n + d) / (2 * d)
-
--- n / d to nearest, a half away from zero
-unfoldable pub nearest : ℤ → ℤ → ℤ
-nearest (pos n) (pos d) = pos (near n d)
-nearest (pos n) (negsuc d) = negℤ (pos (near n (suc d)))
-nearest (negsuc n) (pos d) = negℤ (pos (near (suc n) d))
-nearest (negsuc n) (negsuc d) = pos (near (suc n) (suc d))
-
--- cut toward zero for an upright or level target, otherwise to nearest
+-- cut toward zero for an upright or level target, otherwise to nearest, a half away from zero
 unfoldable pub quotient : Segment → ℤ → ℤ → ℤ
 quotient t n d = cond (upright t || level t) (quotZ n d) (nearest n d)
 
@@ -57,8 +47,12 @@ crossPoint t o =
 
 -- ---- a middle crossing: exact, moved to an end, or rounded
 
+-- p lies on the line of v
+abbrev pub onLine : Segment → Point → Bool
+onLine v p = eqb (natAbs (against v p)) 0
+
 unfoldable pub onBoth : Segment → Segment → Point → Bool
-onBoth t o p = eqb (natAbs (against t p)) 0 && eqb (natAbs (against o p)) 0
+onBoth t o p = onLine t p && onLine o p
 
 -- the squared distance
 unfoldable pub far : Point → Point → ℕ
