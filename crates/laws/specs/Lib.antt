@@ -6,6 +6,7 @@
 --   Boundary    it is one equation for every function of points, and holds over every region
 --   Steps       what a run does to a list keeps it
 --   Prepared    the list of the first look is balanced exactly if the given one is
+--   Cuts        splitting keeps it
 --   Balance     it is decided at the ends of the list
 -- Masks, of settled and balanced lists:
 --   Settled     forward, and every two apart
@@ -34,6 +35,7 @@ pub mod Points
 pub mod Boundary
 pub mod Steps
 pub mod Prepared
+pub mod Cuts
 pub mod Balance
 pub mod Place
 pub mod Settled

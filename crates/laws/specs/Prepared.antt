@@ -23,7 +23,7 @@ abbrev full : Segment → Bool
 full t = not (isEmpty t)
 
 module _ (d : Side) where
-  forward-carries : (e : Segment) → Carries (count d) (count d e) (e .a) (e .b) (forward e)
+  pub forward-carries : (e : Segment) → Carries (count d) (count d e) (e .a) (e .b) (forward e)
   unfolding forward
   forward-carries e = go (before (e .b) (e .a))
     where
