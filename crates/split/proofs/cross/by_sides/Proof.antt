@@ -3,7 +3,7 @@ use mathlib.Core.Path.{_≡_}
 use borrow.Author.Needs.{needs}
 use borrow.Author.Tests.{eq-eqb, ne-eqb, lt-ltb, le-ltb}
 use Rattle.split.specs.Cross.{crossBy}
-use Rattle.split.proofs.Sides.{ends, by-ends, middle-of}
+use Rattle.split.specs.Sides.{ends, by-ends, middle-of}
 use Rattle.split.proofs.cross.by_sides.Statement.{statement}
 use Rattle.split.proofs.cross.by_sides.Tie as tie
 

@@ -3,7 +3,7 @@ use mathlib.Core.Path.{sym}
 use borrow.Author.Needs.{needs}
 use Rattle.geom.specs.Plane.{sideOf}
 use Rattle.split.specs.Cross.{crossing}
-use Rattle.split.proofs.Sides.{one-side}
+use Rattle.split.specs.Sides.{one-side}
 use Rattle.split.proofs.cross.crossing.Statement.{statement}
 use Rattle.split.proofs.cross.crossing.Tie as tie
 

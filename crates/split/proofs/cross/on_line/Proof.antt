@@ -2,7 +2,7 @@
 use mathlib.Core.Path.{ap, _∙_}
 use lib.Dec.{eqb}
 use borrow.Author.Needs.{needs}
-use Rattle.split.proofs.Sides.{side-on-line}
+use Rattle.split.specs.Sides.{side-on-line}
 use Rattle.split.proofs.cross.on_line.Statement.{statement}
 use Rattle.split.proofs.cross.on_line.Tie as tie
 
