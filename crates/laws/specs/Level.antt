@@ -88,11 +88,11 @@ module _ (e t : Segment) (P : Off) (upr : e .a .x .0 ≡ e .b .x .0) (tall : e .
   height : pos 0 <ℤ (e .b .y .0 -ℤ e .a .y .0)
   height = omega (zz, sub-is (e .b .y .0) (e .a .y .0))
 
-  vv : pos 0 <ℤ (P .d *ℤ e .b .y .0 -ℤ P .Y)
-  vv = gap (P .Y) (P .d *ℤ e .b .y .0) high
+  room-above : pos 0 <ℤ (P .d *ℤ e .b .y .0 -ℤ P .Y)
+  room-above = gap (P .Y) (P .d *ℤ e .b .y .0) high
 
-  uu : pos 0 <ℤ (P .Y -ℤ P .d *ℤ e .a .y .0)
-  uu = gap (P .d *ℤ e .a .y .0) (P .Y) low
+  room-below : pos 0 <ℤ (P .Y -ℤ P .d *ℤ e .a .y .0)
+  room-below = gap (P .d *ℤ e .a .y .0) (P .Y) low
 
   goes-over : negℤ (cross t (onto e P)) <ℤ pos 0 → pos 0 <ℤ against (scaled (P .d) t) (spot (onto e P))
   goes-over h = let c : pos 0 <ℤ cross t (onto e P) = omega (zz, neg-is (cross t (onto e P))) in omega (zz, against-scaled t (onto e P), mul-pos (P .over) c)
@@ -108,10 +108,10 @@ module _ (e t : Segment) (P : Off) (upr : e .a .x .0 ≡ e .b .x .0) (tall : e .
   pierced (under-e p q) h k l z =
       let g : ((e .b .y .0 -ℤ e .a .y .0) *ℤ (e .a .x .0 -ℤ t .a .x .0)) <ℤ pos 0 = omega (zz, side-up e (t .a) upr) in
       let c : ⊥ = omega (zz, neg-right height g, sub-is (e .a .x .0) (t .a .x .0)) in absurd c
-  pierced (up-l p q) h k l z = lower-up z (goes-over (pull-dn mean-up (weak height) vv (weak uu) p q))
-  pierced (up-r p q) h k l z = lower-up z (goes-over (pull-dn′ mean-up (weak height) (weak vv) uu p q))
-  pierced (dn-l p q) h k l z = lower-dn z (goes-under (pull-up mean-up (weak height) vv (weak uu) p q))
-  pierced (dn-r p q) h k l z = lower-dn z (goes-under (pull-up′ mean-up (weak height) (weak vv) uu p q))
+  pierced (up-l p q) h k l z = lower-up z (goes-over (pull-dn mean-up (weak height) room-above (weak room-below) p q))
+  pierced (up-r p q) h k l z = lower-up z (goes-over (pull-dn′ mean-up (weak height) (weak room-above) room-below p q))
+  pierced (dn-l p q) h k l z = lower-dn z (goes-under (pull-up mean-up (weak height) room-above (weak room-below) p q))
+  pierced (dn-r p q) h k l z = lower-dn z (goes-under (pull-up′ mean-up (weak height) (weak room-above) room-below p q))
 
 -- where the height is not zero the slope does not matter
 lower-off : (h z : ℤ) → (h ≡ pos 0 → ⊥) → lower h z ≡ ltZ (pos 0) h

@@ -28,6 +28,7 @@
 --   Level       the level stretch from an upright edge to a point
 --   BesideUpright  the count beside an upright edge is its top or its bottom
 --   Example     lists that meet the hypotheses
+-- Statements    every law above, in one place
 pub mod Edges
 pub mod Sides
 pub mod Ray
@@ -55,3 +56,4 @@ pub mod Scale
 pub mod Level
 pub mod BesideUpright
 pub mod Example
+pub mod Statements
