@@ -1,2 +1,10 @@
 pub mod Parity
 pub mod Exclude
+pub mod Under
+pub mod Entries
+pub mod Adding
+pub mod Holding
+pub mod Order
+pub mod Node
+pub mod Sweeping
+pub mod Filling

@@ -1,0 +1,127 @@
+-- From the tests of `fill` to its outcome: each refusal, what is known where none is given, and what the sweep then leaves.
+use mathlib.Core.Path.{_≡_, refl, sym, ap, ap₂, _∙_}
+use mathlib.Core.Bool.{Bool, true, false, not, _||_}
+use mathlib.Core.List.{List, [], _∷_, _++_, map}
+use mathlib.Core.Logic.{⊎-elim}
+use Prim.Native.Nat.{ℕ, zero, suc, _+_, _*_, _≤_, _<_}
+use native.Mathlib.Nat.{eq-or-lt-of-le}
+use native.Mathlib.Omega.{arith}
+use lib.Dec.{ltb}
+use lib.IntN.{ℤ, pos}
+use lib.ListN.{length, drop, replicate, length-map, length-replicate}
+use lib.Seq.{sets, sets-eq}
+use borrow.Author.Tests.{ltb-false}
+use Rattle.whole.specs.Kind.{rowsFrom}
+use Rattle.whole.specs.KindLaws.{length-rows}
+use Rattle.geom.specs.declared.Segment.{Segment}
+use Rattle.geom.specs.Limits.{segmentLimit, scanRoom}
+use Rattle.geom.specs.Plane.{gridSegment}
+use Rattle.geom.specs.Rows.{segments}
+use Rattle.geom.specs.Tests.{gridSegment?, when-true}
+use Rattle.build.specs.declared.sweep.Filled.{Filled}
+use Rattle.build.specs.declared.sweep.Filled.the-variants.{Done, Short, BadRule, OffGrid, NoLength, BadCount, ScanFull}
+use Rattle.build.specs.Masks.{byteOf, bytes, crowded}
+use Rattle.build.specs.Scan.{segmentAt, OnGrids, Swept}
+use Rattle.build.specs.Fill.{isShort, isBad, fault, some, outcome, zeros, noMasks, swept, filled}
+
+-- ---- what a test that fails says
+
+or-l : (a b : Bool) → (a || b) ≡ false → a ≡ false
+or-l true b e = e
+or-l false b e = refl
+
+or-r : (a b : Bool) → (a || b) ≡ false → b ≡ false
+or-r true b e = let z : _≡_ {A = ℕ} 0 1 = cc in absurd (omega arith)
+or-r false b e = e
+
+not-false : (b : Bool) → not b ≡ false → b ≡ true
+not-false true e = refl
+not-false false e = sym e
+
+pub long : (n work masks : ℕ) → isShort n work masks ≡ false → (6 * n ≤ work) × (n ≤ 2048) × (n ≤ masks)
+unfolding isShort
+long n work masks e =
+    let A = ltb segmentLimit n in
+    let B = ltb work (6 * n) in
+    let C = ltb masks n in
+    let f = or-r A (B || C) e in
+    (ltb-false work (6 * n) (or-l B C f), ltb-false segmentLimit n (or-l A (B || C) e), ltb-false masks n (or-r B C f))
+
+pub a-rule : (fill rule : ℕ) → isBad fill rule ≡ false → rule < 7
+unfolding isBad
+a-rule fill rule e = let h = ltb-false 6 rule (or-r (ltb 3 fill) (ltb 6 rule) e) in omega arith
+
+faultless : (work : List ℤ) (k i n : ℕ) → some k (rowsFrom segments work i n) ≡ false → (m : ℕ) → i ≤ m → m < i + n → fault k (segmentAt work m) ≡ false
+unfolding some rowsFrom
+faultless work k i zero e m h q = let z : ⊥ = omega arith in absurd z
+faultless work k i (suc n) e m h q =
+    let F = fault k (segmentAt work i) in
+    let S = some k (rowsFrom segments work (suc i) n) in
+    ⊎-elim (λ j. rw (← j) (or-l F S e)) (λ l. faultless work k (suc i) n (or-r F S e) m l (omega arith)) (eq-or-lt-of-le h)
+
+pub on-grids : (work : List ℤ) (n : ℕ) → some 3 (rowsFrom segments work 0 n) ≡ false → OnGrids work n
+unfolding fault
+on-grids work n e =
+    record {
+      each = λ m q.
+          when-true (gridSegment? (segmentAt work m)) (not-false (gridSegment (segmentAt work m)) (faultless work 3 0 n e m (omega arith) (omega arith)));
+    }
+
+-- ---- the outcome, refusal by refusal
+
+module _ (work : List ℤ) (n fill rule : ℕ) (scan : List ℤ) (masks : List ℕ) where
+  abbrev L : List Segment
+  L = rowsFrom segments work 0 n
+
+  pub refused-1 : isShort n (length work) (length masks) ≡ true → outcome Short scan masks ≡ filled work n fill rule scan masks
+  unfolding filled
+  refused-1 e = rw e
+
+  module _ (a : isShort n (length work) (length masks) ≡ false) where
+    pub refused-2 : isBad fill rule ≡ true → outcome BadRule scan masks ≡ filled work n fill rule scan masks
+    unfolding filled
+    refused-2 e = rw (a, e)
+
+    module _ (b : isBad fill rule ≡ false) where
+      pub refused-3 : some 3 L ≡ true → outcome OffGrid scan masks ≡ filled work n fill rule scan masks
+      unfolding filled
+      refused-3 e = rw (a, b, e)
+
+      module _ (c : some 3 L ≡ false) where
+        pub refused-4 : some 4 L ≡ true → outcome NoLength scan masks ≡ filled work n fill rule scan masks
+        unfolding filled
+        refused-4 e = rw (a, b, c, e)
+
+        module _ (d : some 4 L ≡ false) where
+          pub refused-5 : some 5 L ≡ true → outcome BadCount scan masks ≡ filled work n fill rule scan masks
+          unfolding filled
+          refused-5 e = rw (a, b, c, d, e)
+
+          pub not-refused : some 5 L ≡ false → filled work n fill rule scan masks ≡ swept L fill rule scan masks
+          unfolding filled
+          not-refused e = rw (a, b, c, d, e)
+
+-- ---- what the sweep leaves
+
+module _
+    (masks : List ℕ) {L : List Segment} {fill rule : ℕ} {scan ys xs : List ℤ} {zs ns : List ℕ} {r : Bool} (clear : zs ≡ noMasks masks)
+    (s : Swept fill rule (scanRoom (length scan)) L scan zs r ys ns) (x : xs ≡ replicate (length ys) (pos 0))
+  where
+    no-entry : xs ≡ zeros scan
+    no-entry = x ∙ ap (λ (k : ℕ). replicate k (pos 0)) (s .scan-kept)
+
+    pub left-full : r ≡ true → {ms : List ℕ} → ms ≡ replicate (length ns) 0 → outcome ScanFull xs ms ≡ swept L fill rule scan masks
+    unfolding swept
+    left-full e {ms} m =
+        let k : length ns ≡ length masks = s .masks-kept ∙ ap length clear ∙ length-replicate {A = ℕ} (length masks) 0 in
+        rw (sym (s .answer) ∙ e) (ap₂ (outcome ScanFull) no-entry (m ∙ ap (λ (k : ℕ). replicate k 0) k))
+
+    pub left-bytes : length L ≤ length masks → r ≡ false → outcome Done xs ns ≡ swept L fill rule scan masks
+    unfolding swept
+    left-bytes h e =
+        let B = bytes fill rule L in
+        let k : length B ≡ length L = length-map L (byteOf fill rule L) in
+        let f : 0 + length B ≤ length (noMasks masks) = omega (arith, k, length-replicate {A = ℕ} (length masks) 0) in
+        let n : 0 + length B ≡ length L = omega arith in
+        rw (sym (s .answer) ∙ e)
+        (ap₂ (outcome Done) no-entry (s .bytes-are e ∙ ap (λ (l : List ℕ). sets l 0 B) clear ∙ sets-eq B (noMasks masks) 0 f ∙ ap (λ (m : ℕ). B ++ drop m (noMasks masks)) n))

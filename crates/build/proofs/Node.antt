@@ -1,0 +1,99 @@
+-- At a node the scan list holds what is live of the whole list: so the sums over it are the definition's, and its length is the definition's number.
+use mathlib.Core.Path.{_≡_, refl, sym, ap, _∙_}
+use mathlib.Core.List.{List, _++_, append-nil}
+use mathlib.Core.Logic.{⊎-elim}
+use Prim.Native.Nat.{ℕ, _+_, _-_, _≤_, _<_}
+use native.Mathlib.Omega.{arith}
+use lib.IntN.{ℤ, _*ℤ_}
+use lib.ListN.{length}
+use Rattle.whole.specs.Kind.{rowsFrom}
+use Rattle.whole.specs.Sum.{all-of, sum-on, sum-map, ind, Over, over-same, over-keep, keep}
+use Rattle.whole.specs.Total.{side}
+use Rattle.geom.specs.declared.Point.{Point}
+use Rattle.geom.specs.declared.Segment.{Segment}
+use Rattle.geom.specs.Plane.{Side, subject, clip, count, Before}
+use Rattle.geom.specs.Rows.{segments}
+use Rattle.build.specs.declared.scan.Entry.{Entry}
+use Rattle.build.specs.Masks.{live, below, bottom, top, maskOf, byteOf}
+use Rattle.build.specs.Live.{live-below}
+use Rattle.build.specs.Scan.{segmentAt, entryOf, entriesFrom, named, liveAt, amount, sumOf, sumsOf, maskBy, byteBy, NodeEnd}
+use Rattle.build.proofs.Entries.{keep-append, keep-none, keep-keep, length-keep-map, entries-append, all-entries, by-entries}
+use Rattle.build.proofs.Order.{Upto, here, before-upto, strictly, not-yet, still, Sorted}
+
+module _ (work : List ℤ) (n : ℕ) where
+  abbrev L : List Segment
+  L = rowsFrom segments work 0 n
+
+  abbrev E : List Entry
+  E = entriesFrom work 0 n
+
+  -- ---- what is live
+
+  pub live-number : (p : Point) → length (keep (live p) L) ≡ length (keep (liveAt work p) E)
+  live-number p = ap (λ l. length (keep (live p) l)) (by-entries work 0 n) ∙ length-keep-map (live p) (named work) E
+
+  -- ---- the sums
+
+  counted : (k : Side) (m : ℕ) → amount k (entryOf m (segmentAt work m)) ≡ count k (segmentAt work m)
+  counted subject m = refl
+  counted clip m = refl
+
+  sum-is : (k : Side) (e : Segment) → sumOf k work e (keep (liveAt work (e .a)) E) ≡ bottom (count k) L e
+  unfolding bottom Over
+  sum-is k e =
+      over-keep (amount k) (liveAt work (e .a)) (λ t. below (named work t) e) E
+      ∙ sym (over-same (amount k) (all-of E (λ t. live-below (named work t) e)))
+      ∙ sum-on (all-entries work 0 n (λ m h q. ap (λ (z : ℤ). z *ℤ ind (below (segmentAt work m) e)) (counted k m)))
+      ∙ sym (sum-map (λ t. count k t *ℤ ind (below t e)) (named work) E)
+      ∙ ap (Over (count k) (λ t. below t e)) (sym (by-entries work 0 n))
+
+  pub byte-is : (fill rule : ℕ) (e : Segment) → byteBy fill rule (sumsOf work e (keep (liveAt work (e .a)) E)) e ≡ byteOf fill rule L e
+  unfolding byteBy maskBy byteOf maskOf top
+  byte-is fill rule e = rw (sum-is subject e, sum-is clip e)
+
+  -- ---- a list in order
+
+  module _ {i r : ℕ} (s : Sorted work n) (d : NodeEnd work n i r) where
+    abbrev p : Point
+    p = segmentAt work i .a
+
+    -- those before the end of the node have begun, and the others have not
+    begun : (k : ℕ) → k < r → Upto (segmentAt work k .a) p
+    begun k h = ⊎-elim (λ (q : k ≤ i). s .each k i q (omega (arith, d .after, d .within))) (λ (q : i < k). here (sym (d .same k (omega arith) h))) (side k i)
+
+    to-come : (m : ℕ) → r ≤ m → m < n → Before p (segmentAt work m .a)
+    to-come m h q =
+        let l : r < n = omega arith in
+        before-upto (strictly (s .each i r (omega (arith, d .after)) l) (d .next l)) (s .each r m h q)
+
+    first : keep (liveAt work p) (entriesFrom work 0 r) ≡ keep (liveAt work p) E
+    first =
+        let F = entriesFrom work 0 r in
+        let G = entriesFrom work (0 + r) (n - r) in
+        let e : r + (n - r) ≡ n = omega (arith, d .within) in
+        sym
+        (ap (λ (k : ℕ). keep (liveAt work p) (entriesFrom work 0 k)) (sym e)
+        ∙ ap (keep (liveAt work p)) (entries-append work 0 r (n - r))
+        ∙ keep-append (liveAt work p) F G
+        ∙ ap (λ l. keep (liveAt work p) F ++ l) (keep-none (liveAt work p) (all-entries work (0 + r) (n - r) (λ m h q. not-yet p (segmentAt work m) (to-come m (omega arith) (omega (arith, d .within))))))
+        ∙ append-nil (keep (liveAt work p) F))
+
+    -- those that stayed and those that came
+    pub together : (l : List Entry) → keep (liveAt work p) l ≡ keep (liveAt work p) (entriesFrom work 0 i) → keep (liveAt work p) l ++ keep (liveAt work p) (entriesFrom work i (r - i)) ≡ keep (liveAt work p) E
+    together l g =
+        let F = entriesFrom work 0 i in
+        let z : 0 + i ≡ i = omega arith in
+        let y : i + (r - i) ≡ r = omega (arith, d .after) in
+        let a : entriesFrom work 0 r ≡ F ++ entriesFrom work i (r - i) =
+        ap (entriesFrom work 0) (sym y) ∙ entries-append work 0 i (r - i) ∙ ap (λ (k : ℕ). F ++ entriesFrom work k (r - i)) z in
+        ap (λ m. m ++ keep (liveAt work p) (entriesFrom work i (r - i))) g
+        ∙ sym (keep-append (liveAt work p) F (entriesFrom work i (r - i)))
+        ∙ ap (keep (liveAt work p)) (sym a)
+        ∙ first
+
+    -- at a later node, what was live is what was live of those that had begun
+    pub at-next : (m : ℕ) → r ≤ m → m < n → let q = segmentAt work m .a in keep (liveAt work q) (keep (liveAt work p) E) ≡ keep (liveAt work q) (entriesFrom work 0 r)
+    at-next m h l =
+        let q = segmentAt work m .a in
+        ap (keep (liveAt work q)) (sym first)
+        ∙ keep-keep (liveAt work q) (liveAt work p) (all-entries work 0 r (λ k a b. still q p (segmentAt work k) (begun k (omega arith)) (s .each i m (omega (arith, d .after)) l)))

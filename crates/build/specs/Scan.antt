@@ -1,0 +1,144 @@
+-- The scan list ("Input and answer"): an entry is the number of a segment and its two counts, 64 bits each. And what is read off it at a node ("Masks").
+use mathlib.Core.Path.{_≡_, refl}
+use mathlib.Core.Bool.{Bool, true, false, not, _&&_}
+use mathlib.Core.List.{List, [], _∷_, _++_, map}
+use Prim.Native.Nat.{ℕ, zero, suc, _+_, _*_, _-_, _<_, _≤_}
+use native.Mathlib.Omega.{arith}
+use lib.IntN.{ℤ, pos, natAbs, _+ℤ_}
+use lib.ListN.{length, getD, take}
+use lib.Seq.{sets}
+use Rattle.whole.specs.Kind.{Kind, rowAt, rowsFrom}
+use Rattle.whole.specs.Sum.{Over, keep}
+use Rattle.geom.specs.declared.Point.{Point}
+use Rattle.geom.specs.declared.Segment.{Segment}
+use Rattle.geom.specs.Plane.{Side, subject, clip, GridSegment, before, samePoint}
+use Rattle.geom.specs.Rows.{segments}
+use Rattle.build.specs.declared.scan.Entry.{Entry}
+use Rattle.build.specs.declared.sums.Sums.{Sums}
+use Rattle.build.specs.Inside.{inside}
+use Rattle.build.specs.Keep.{kept}
+use Rattle.build.specs.Masks.{flag, live, below, bytes, crowded}
+
+-- ---- entries as rows
+
+abbrev pub numbers : Entry → List ℤ
+numbers t = t .segment ∷ t .subject ∷ t .clip ∷ []
+
+abbrev pub make : List ℤ → Entry
+make l = record { segment = getD l 0 (pos 0); subject = getD l 1 (pos 0); clip = getD l 2 (pos 0) }
+
+pub numbered : (l : List ℤ) → 3 ≤ length l → numbers (make l) ≡ take 3 l
+numbered [] h = absurd (omega arith)
+numbered (a ∷ []) h = absurd (omega arith)
+numbered (a ∷ b ∷ []) h = absurd (omega arith)
+numbered (a ∷ b ∷ c ∷ t) h = refl
+
+pub short : (l : List ℤ) → make (take 3 l) ≡ make l
+short [] = refl
+short (a ∷ []) = refl
+short (a ∷ b ∷ []) = refl
+short (a ∷ b ∷ c ∷ t) = refl
+
+abbrev pub entries : Kind Entry
+entries = record { width = 3; numbers = numbers; make = make; sized = λ t. refl; made = λ t l. refl; numbered = numbered; short = short }
+
+-- ---- entries of a work list
+
+abbrev pub segmentAt : List ℤ → ℕ → Segment
+segmentAt work i = rowAt segments work i
+
+abbrev pub entryOf : ℕ → Segment → Entry
+entryOf i v = record { segment = pos i; subject = v .subject .0; clip = v .clip .0 }
+
+-- the entries of the k segments from number i on
+unfoldable pub entriesFrom : List ℤ → ℕ → ℕ → List Entry
+entriesFrom work i zero = []
+entriesFrom work i (suc k) = entryOf i (segmentAt work i) ∷ entriesFrom work (suc i) k
+
+-- the segment that an entry names
+abbrev pub named : List ℤ → Entry → Segment
+named work t = segmentAt work (natAbs (t .segment))
+
+-- an entry of one of the n segments
+pub record EntryOf (work : List ℤ) (n : ℕ) (t : Entry) : Type 0 where
+  pub number : ℕ
+  pub is : t ≡ entryOf number (segmentAt work number)
+  pub small : number < n
+
+abbrev pub liveAt : List ℤ → Point → Entry → Bool
+liveAt work p t = live p (named work t)
+
+-- ---- the sums over entries
+
+abbrev pub amount : Side → Entry → ℤ
+amount subject t = t .subject
+amount clip t = t .clip
+
+abbrev pub part : Side → Sums → ℤ
+part subject s = s .subject
+part clip s = s .clip
+
+-- one entry more, if it counts
+abbrev pub addIf : Bool → Sums → Entry → Sums
+addIf true s t = record { subject = s .subject +ℤ t .subject; clip = s .clip +ℤ t .clip }
+addIf false s t = s
+
+-- the counts of those entries that lie below e
+abbrev pub sumOf : Side → List ℤ → Segment → List Entry → ℤ
+sumOf k work e l = Over (amount k) (λ t. below (named work t) e) l
+
+abbrev pub sumsOf : List ℤ → Segment → List Entry → Sums
+sumsOf work e l = record { subject = sumOf subject work e l; clip = sumOf clip work e l }
+
+-- ---- the byte of an edge by the sums at its bottom
+
+unfoldable pub maskBy : ℕ → Sums → Segment → ℕ
+maskBy fill s e =
+    flag (inside fill (s .subject +ℤ e .subject .0))
+    + 2 * flag (inside fill (s .subject))
+    + 4 * flag (inside fill (s .clip +ℤ e .clip .0))
+    + 8 * flag (inside fill (s .clip))
+
+unfoldable pub byteBy : ℕ → ℕ → Sums → Segment → ℕ
+byteBy fill rule s e = let m = maskBy fill s e in m + 16 * flag (kept rule m)
+
+-- the bytes of edges by the entries in use
+abbrev pub bytesBy : ℕ → ℕ → List ℤ → List Entry → List Segment → List ℕ
+bytesBy fill rule work l K = map (λ e. byteBy fill rule (sumsOf work e l) e) K
+
+-- ---- nodes
+
+-- the first n segments are on the grid
+pub record OnGrids (work : List ℤ) (n : ℕ) : Type 0 where
+  pub each : (i : ℕ) → i < n → GridSegment (segmentAt work i)
+
+-- no segment starts before the one that stands before it
+unfoldable pub ordered : List Segment → Bool
+ordered [] = true
+ordered (u ∷ []) = true
+ordered (u ∷ v ∷ L) = not (before (v .a) (u .a)) && ordered (v ∷ L)
+
+-- r ends the node that starts at i: the segments from i to r start where i does, and the next does not
+pub record NodeEnd (work : List ℤ) (n i r : ℕ) : Type 0 where
+  pub after : i < r
+  pub within : r ≤ n
+  pub same : (k : ℕ) → i ≤ k → k < r → segmentAt work i .a ≡ segmentAt work k .a
+  pub next : r < n → samePoint (segmentAt work i .a) (segmentAt work r .a) ≡ false
+
+-- what a node from i to e at p leaves in the scan list: in a list in order, of the entries in use those that are still live, and then its own; else all that are live
+abbrev pub arrivals : List ℤ → ℕ → Bool → List Entry → ℕ → ℕ → Point → List Entry
+arrivals work n true l i e p = keep (liveAt work p) l ++ keep (liveAt work p) (entriesFrom work i (e - i))
+arrivals work n false l i e p = keep (liveAt work p) (entriesFrom work 0 n)
+
+-- the scan list then holds these, if there is room
+pub record Holds (room : ℕ) (xs : List ℤ) (l : List Entry) (r : ℕ) (ys : List ℤ) : Type 0 where
+  pub same-length : length ys ≡ length xs
+  pub number : r ≡ length l
+  pub rows : r ≤ room → rowsFrom entries ys 0 r ≡ l
+
+-- what the sweep promises: whether some node is crowded, and the bytes where none is
+pub record Swept (fill rule room : ℕ) (L : List Segment) (xs : List ℤ) (ms : List ℕ) (r : Bool) (ys : List ℤ) (ns : List ℕ) : Type 0 where
+  pub answer : r ≡ crowded room L
+  pub bytes-are : r ≡ false → ns ≡ sets ms 0 (bytes fill rule L)
+  pub scan-kept : length ys ≡ length xs
+  pub masks-kept : length ns ≡ length ms
