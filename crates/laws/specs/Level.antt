@@ -114,7 +114,7 @@ module _ (e t : Segment) (P : Off) (upr : e .a .x .0 ≡ e .b .x .0) (tall : e .
   pierced (dn-r p q) h k l z = lower-dn z (goes-under (pull-up′ mean-up (weak height) (weak room-above) room-below p q))
 
 -- where the height is not zero the slope does not matter
-lower-off : (h z : ℤ) → (h ≡ pos 0 → ⊥) → lower h z ≡ ltZ (pos 0) h
+pub lower-off : (h z : ℤ) → (h ≡ pos 0 → ⊥) → lower h z ≡ ltZ (pos 0) h
 lower-off h z n = go (tri h (pos 0))
   where
     go : Tri h (pos 0) → lower h z ≡ ltZ (pos 0) h

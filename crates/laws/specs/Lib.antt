@@ -27,6 +27,7 @@
 --   Scale       edges scaled
 --   Level       the level stretch from an upright edge to a point
 --   BesideUpright  the count beside an upright edge is its top or its bottom
+--   Moves       the count is the same wherever no edge comes between
 --   Example     lists that meet the hypotheses
 -- Statements    every law above, in one place
 pub mod Edges
@@ -55,5 +56,6 @@ pub mod Beside
 pub mod Scale
 pub mod Level
 pub mod BesideUpright
+pub mod Moves
 pub mod Example
 pub mod Statements

@@ -6,10 +6,10 @@ use mathlib.Core.Logic.{_↔_}
 use lib.Dec.{T}
 use lib.IntN.{ℤ, pos, _*ℤ_}
 use lib.Signed.{_<ℤ_}
-use Rattle.whole.specs.Sum.{Over, keep}
+use Rattle.whole.specs.Sum.{All, Over, keep}
 use Rattle.geom.specs.declared.Point.{Point}
 use Rattle.geom.specs.declared.Segment.{Segment}
-use Rattle.geom.specs.Plane.{Side, count}
+use Rattle.geom.specs.Plane.{Side, count, Before}
 use Rattle.geom.specs.Off.{Off, cross}
 use Rattle.segm.specs.Forward.{forward, sorted}
 use Rattle.segm.specs.Merge.{merged}
@@ -31,6 +31,7 @@ use Rattle.laws.specs.Live.{sweep}
 use Rattle.laws.specs.Beside.{Beside, ray-over, ray-under}
 use Rattle.laws.specs.Level.{Level}
 use Rattle.laws.specs.BesideUpright.{ray-right, ray-left}
+use Rattle.laws.specs.Moves.{Misses, ray-moves}
 
 -- ---- balance
 
@@ -93,3 +94,7 @@ module _ (w : Segment → ℤ) (L : List Segment) (st : Settled L) (bal : Balanc
 
     left-of-edge : P .X <ℤ (P .d *ℤ e .a .x .0) → ray w L P ≡ top w L e
     left-of-edge = ray-left w L st bal e i upright up P level
+
+-- the count is the same at two points, one right of the other, that a straight stretch joins which no edge meets; the list need not be settled
+between-points : (w : Segment → ℤ) (L : List Segment) → All (λ t. Before (t .a) (t .b)) L → Balanced w L → (P Q : Off) → (Q .d *ℤ P .X) <ℤ (P .d *ℤ Q .X) → All (Misses P Q) L → ray w L P ≡ ray w L Q
+between-points = ray-moves
