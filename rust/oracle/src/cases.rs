@@ -61,7 +61,7 @@ pub fn squares() -> Vec<i32> {
     [square(0, 4, 1, 0), square(2, 6, 0, 1)].concat()
 }
 
-/// The printed run; then with budget 1, and with too little room for marks, for segments, for the scan.
+/// The printed run; then with budget 1, and with too little room for marks, for segments, for the scan; then with two of these faults.
 fn printed() -> Vec<Case> {
     let squares = |budget, room| Case::new(squares(), NONZERO, INTERSECT, budget, room);
     vec![
@@ -71,6 +71,10 @@ fn printed() -> Vec<Case> {
         squares(2, room(12, 3, 4)),
         squares(2, room(11, 4, 4)),
         squares(2, room(12, 4, 3)),
+        squares(1, room(12, 3, 4)),
+        squares(1, room(11, 4, 4)),
+        squares(2, room(11, 3, 4)),
+        squares(2, room(11, 4, 3)),
     ]
 }
 
@@ -133,6 +137,7 @@ fn sums() -> Vec<Case> {
         thrice([(BIG, 0), (1, 0), (0, 0)]),
         thrice([(-BIG, 0), (0, 0), (-1, 0)]),
         thrice([(0, BIG), (0, -BIG), (2, BIG)]),
+        roomy([outline(&[(0, 0), (5, 0), (0, 5)], -BIG, 0), outline(&[(0, 0), (5, 0), (9, 9)], -1, 0)].concat(), 8),
         two([(0, 0), (8, 0), (4, 9)], [(2, 0), (6, 0), (4, 5)], BIG),
         two([(0, 0), (9, 0), (0, 9)], [(1, 1), (3, 1), (1, 3)], 1),
     ]
@@ -163,6 +168,22 @@ fn empties() -> Vec<Case> {
         Case::new(vec![0, 0, 0, 4, 0, 0], 0, 0, 1, room(1, 0, 0)),
         Case::new(vec![0, 0, 1, 4, 0, 0], 0, 0, 1, room(1, 0, 0)),
     ]
+}
+
+/// Lists longer than the limits are cut to them. Lent room for more, 2,048 segments settle, and with a mark they are 8; masks are held
+/// against the work list after the cut; a grid of 90 by 90 bars yields 64,800 marks (8), one of 91 by 91 more than 65,536 (7).
+pub fn limits() -> Vec<Case> {
+    let apart = |k: i32| outline(&[(4 * k, 0), (4 * k + 2, 0), (4 * k + 2, 2), (4 * k, 2)], 1, 0);
+    let row = |squares: i32| (0..squares).flat_map(apart).collect::<Vec<i32>>();
+    let across = [row(510), outline(&[(1, 1), (5, 1), (5, 5), (1, 5)], 0, 1), apart(511)].concat();
+    let grid = |size: i32| {
+        let bar = |x, y, wide, high| outline(&[(x, y), (x + wide, y), (x + wide, y + high), (x, y + high)], 1, 0);
+        (0..size).flat_map(|k| [bar(0, 4 * k + 1, 999, 2), bar(4 * k + 1, 0, 2, 999)].concat()).collect()
+    };
+    let case = |input| Case::new(input, NONZERO, UNION, 64, room(2100, 100_000, 2100));
+    let [mut cut, mut short] = [case(squares()), case(squares())];
+    (cut.masks, short.masks) = (2048, 2047);
+    vec![case(row(512)), case(across), cut, short, case(grid(90)), case(grid(91))]
 }
 
 /// All cases that were chosen by hand.

@@ -59,13 +59,13 @@ impl Counts {
         }
     }
 
-    /// Lists of the greatest size: short scattered triangles, and a few long ones across them.
-    pub fn full_lists(&mut self, seed: u64, runs: usize) {
+    /// Long lists: short scattered triangles, and a few long ones across them.
+    pub fn long_lists(&mut self, seed: u64, runs: usize) {
         let mut random = Random::new(seed);
         for _ in 0..runs {
             let mut input = Vec::new();
-            for k in 0..500 {
-                let size = if k < 8 { 20_000 } else { 300 };
+            for k in 0..400 {
+                let size = if k < 2 { 20_000 } else { 400 };
                 let (x, y) = (random.between(0, 20_000), random.between(0, 20_000));
                 let near = |r: &mut Random| (x + r.between(-size, size), y + r.between(-size, size));
                 let triangle = [near(&mut random), near(&mut random), near(&mut random)];

@@ -19,8 +19,15 @@ mod with_sources {
         let mut counts = Counts::default();
         cases::samples(300).iter().for_each(|case| drop(counts.run(case)));
         counts.random_runs(1, 20_000);
-        counts.full_lists(2, 1);
+        counts.long_lists(2, 1);
         assert!(counts.answers.iter().all(|runs| *runs > 0), "{:?}", counts.answers);
+    }
+
+    #[test]
+    fn long_lists_are_cut_to_the_limits() {
+        let mut counts = Counts::default();
+        let answers = cases::limits().iter().map(|case| counts.run(case).answer).collect::<Vec<u32>>();
+        assert_eq!(answers, [0, 8, 0, 1, 8, 7]);
     }
 
     #[test]

@@ -12,10 +12,11 @@ fn main() {
 
     let times: usize = std::env::args().nth(1).map_or(1, |word| word.parse().expect("a whole number"));
     let mut counts = Counts::default();
-    cases::samples(300).iter().for_each(|case| drop(counts.run(case)));
+    let chosen = [cases::samples(300), cases::limits()].concat();
+    chosen.iter().for_each(|case| drop(counts.run(case)));
     counts.all_triangles();
     counts.random_runs(1, 200_000 * times);
-    counts.full_lists(2, 4 * times);
+    counts.long_lists(2, 10 * times);
     counts.all_pairs(5);
     counts.random_pairs(3, 1_000_000 * times);
     counts.random_merges(4, 100_000 * times);

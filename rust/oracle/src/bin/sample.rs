@@ -56,11 +56,10 @@ fn answer(text: &str) -> Result<(), String> {
 }
 
 fn print_answered(cases: &[Case]) -> Result<(), String> {
+    let outcomes: Option<Vec<Outcome>> = cases.iter().map(by_crate).collect();
+    let outcomes = outcomes.ok_or(oracle::SKIPPED)?;
     println!("{}", cases.len());
-    for case in cases {
-        let outcome = by_crate(case).ok_or(oracle::SKIPPED)?;
-        print!("\n{case}{outcome}");
-    }
+    cases.iter().zip(outcomes).for_each(|(case, outcome)| print!("\n{case}{outcome}"));
     Ok(())
 }
 
