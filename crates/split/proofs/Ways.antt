@@ -16,9 +16,9 @@ use Rattle.geom.specs.Tests.{Decides, holds, fails, same?, upright?}
 use Rattle.plane.specs.Apart.{o₁, o₂}
 use Rattle.plane.specs.Quotients.{nearest, cut-reduced}
 use Rattle.plane.specs.Crossing.{upright-div, level-div}
-use Rattle.split.specs.Cross.{level, quotient, crossPoint}
+use Rattle.split.specs.Cross.{level, crossPoint}
 use Rattle.split.specs.Middle.{Middle, Cut, Share}
-use Rattle.split.specs.Boxes.{parted-some}
+use Rattle.split.specs.Boxes.{by-cut, by-nearest, parted-some}
 use Rattle.split.specs.Sizes.{width, height, share-near, divisor-near, width-near, height-near}
 use Rattle.split.proofs.Steps.{parted-same, parted-less}
 
@@ -46,15 +46,7 @@ none-offset n p q d e = rw (← e, nothing, none-cut d) (omega (zz, add-is p (po
     nothing : n *ℤ (p -ℤ p) ≡ pos 0
     nothing = ring (n ∷ p ∷ []) (search reads depth 20 fits 5000) tt
 
--- ---- the definition's two quotients
-
-by-cut : (t : Segment) (n d : ℤ) → (upright t || level t) ≡ true → quotient t n d ≡ quotZ n d
-unfolding quotient
-by-cut t n d e = rw e
-
-by-nearest : (t : Segment) (n d : ℤ) → (upright t || level t) ≡ false → quotient t n d ≡ nearest n d
-unfolding quotient
-by-nearest t n d e = rw e
+-- ---- the tests
 
 level? : (t : Segment) → Decides (t .a .y .0 ≡ t .b .y .0) (level t)
 unfolding level

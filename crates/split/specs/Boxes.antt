@@ -1,6 +1,7 @@
 -- The middle point lies in both bounding boxes before it is moved to an end ("Crossing"), so it is on the grid: its offsets are quotients cut or to nearest,
 -- both less than 1 from their fractions, and the fractions are those of the point where the lines meet.
-use mathlib.Core.Bool.{Bool, true, false, cond, _||_}
+use mathlib.Core.Path.{_≡_, refl}
+use mathlib.Core.Bool.{Bool, true, false, _||_}
 use mathlib.Core.Logic.{_≢_, inl, inr}
 use lib.IntN.{ℤ, pos, _-ℤ_, _*ℤ_}
 use lib.Signed.{quotZ}
@@ -16,13 +17,24 @@ use Rattle.plane.specs.Crossing.{Span, up, down, InBoth, crossing-in-boxes}
 use Rattle.split.specs.Cross.{level, quotient, crossPoint}
 use Rattle.split.specs.Middle.{Middle}
 
-pub quotient-rounded : (t : Segment) (n k : ℤ) → k ≢ pos 0 → Rounded n k (quotient t n k)
+-- ---- the definition's two quotients
+
+pub by-cut : (t : Segment) (n d : ℤ) → (upright t || level t) ≡ true → quotient t n d ≡ quotZ n d
 unfolding quotient
-quotient-rounded t n k h = go (upright t || level t)
+by-cut t n d e = rw e
+
+pub by-nearest : (t : Segment) (n d : ℤ) → (upright t || level t) ≡ false → quotient t n d ≡ nearest n d
+unfolding quotient
+by-nearest t n d e = rw e
+
+quotient-rounded : (t : Segment) (n d : ℤ) → d ≢ pos 0 → Rounded n d (quotient t n d)
+quotient-rounded t n d h = go (upright t || level t) refl
   where
-    go : (b : Bool) → Rounded n k (cond b (quotZ n k) (nearest n k))
-    go true = rounded-cut n k h
-    go false = rounded-nearest n k h
+    go : (b : Bool) → (upright t || level t) ≡ b → Rounded n d (quotient t n d)
+    go true e = rw (by-cut t n d e) (rounded-cut n d h)
+    go false e = rw (by-nearest t n d e) (rounded-nearest n d h)
+
+-- ---- the middle point
 
 pub parted-some : {m n : ℤ} → Parted m n → m -ℤ n ≢ pos 0
 parted-some {m} {n} (inl h) = omega (zz, sub-is m n)
