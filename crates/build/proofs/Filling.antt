@@ -22,7 +22,7 @@ use Rattle.build.specs.declared.sweep.Filled.{Filled}
 use Rattle.build.specs.declared.sweep.Filled.the-variants.{Done, Short, BadRule, OffGrid, NoLength, BadCount, ScanFull}
 use Rattle.build.specs.Masks.{byteOf, bytes, crowded}
 use Rattle.build.specs.Scan.{segmentAt, OnGrids, Swept}
-use Rattle.build.specs.Fill.{isShort, isBad, fault, some, outcome, zeros, noMasks, swept, filled}
+use Rattle.build.specs.Fill.{isShort, isBad, isOff, isPoint, hasLeast, some, outcome, zeros, noMasks, swept, filled}
 
 -- ---- what a test that fails says
 
@@ -51,20 +51,19 @@ pub a-rule : (fill rule : ℕ) → isBad fill rule ≡ false → rule < 7
 unfolding isBad
 a-rule fill rule e = let h = ltb-false 6 rule (or-r (ltb 3 fill) (ltb 6 rule) e) in omega arith
 
-faultless : (work : List ℤ) (k i n : ℕ) → some k (rowsFrom segments work i n) ≡ false → (m : ℕ) → i ≤ m → m < i + n → fault k (segmentAt work m) ≡ false
+faultless : (has : Segment → Bool) (work : List ℤ) (i n : ℕ) → some has (rowsFrom segments work i n) ≡ false → (m : ℕ) → i ≤ m → m < i + n → has (segmentAt work m) ≡ false
 unfolding some rowsFrom
-faultless work k i zero e m h q = let z : ⊥ = omega arith in absurd z
-faultless work k i (suc n) e m h q =
-    let F = fault k (segmentAt work i) in
-    let S = some k (rowsFrom segments work (suc i) n) in
-    ⊎-elim (λ j. rw (← j) (or-l F S e)) (λ l. faultless work k (suc i) n (or-r F S e) m l (omega arith)) (eq-or-lt-of-le h)
+faultless has work i zero e m h q = let z : ⊥ = omega arith in absurd z
+faultless has work i (suc n) e m h q =
+    let F = has (segmentAt work i) in
+    let S = some has (rowsFrom segments work (suc i) n) in
+    ⊎-elim (λ j. rw (← j) (or-l F S e)) (λ l. faultless has work (suc i) n (or-r F S e) m l (omega arith)) (eq-or-lt-of-le h)
 
-pub on-grids : (work : List ℤ) (n : ℕ) → some 3 (rowsFrom segments work 0 n) ≡ false → OnGrids work n
-unfolding fault
+pub on-grids : (work : List ℤ) (n : ℕ) → some isOff (rowsFrom segments work 0 n) ≡ false → OnGrids work n
 on-grids work n e =
     record {
       each = λ m q.
-          when-true (gridSegment? (segmentAt work m)) (not-false (gridSegment (segmentAt work m)) (faultless work 3 0 n e m (omega arith) (omega arith)));
+          when-true (gridSegment? (segmentAt work m)) (not-false (gridSegment (segmentAt work m)) (faultless isOff work 0 n e m (omega arith) (omega arith)));
     }
 
 -- ---- the outcome, refusal by refusal
@@ -83,21 +82,21 @@ module _ (work : List ℤ) (n fill rule : ℕ) (scan : List ℤ) (masks : List �
     refused-2 e = rw (a, e)
 
     module _ (b : isBad fill rule ≡ false) where
-      pub refused-3 : some 3 L ≡ true → outcome OffGrid scan masks ≡ filled work n fill rule scan masks
+      pub refused-3 : some isOff L ≡ true → outcome OffGrid scan masks ≡ filled work n fill rule scan masks
       unfolding filled
       refused-3 e = rw (a, b, e)
 
-      module _ (c : some 3 L ≡ false) where
-        pub refused-4 : some 4 L ≡ true → outcome NoLength scan masks ≡ filled work n fill rule scan masks
+      module _ (c : some isOff L ≡ false) where
+        pub refused-4 : some isPoint L ≡ true → outcome NoLength scan masks ≡ filled work n fill rule scan masks
         unfolding filled
         refused-4 e = rw (a, b, c, e)
 
-        module _ (d : some 4 L ≡ false) where
-          pub refused-5 : some 5 L ≡ true → outcome BadCount scan masks ≡ filled work n fill rule scan masks
+        module _ (d : some isPoint L ≡ false) where
+          pub refused-5 : some hasLeast L ≡ true → outcome BadCount scan masks ≡ filled work n fill rule scan masks
           unfolding filled
           refused-5 e = rw (a, b, c, d, e)
 
-          pub not-refused : some 5 L ≡ false → filled work n fill rule scan masks ≡ swept L fill rule scan masks
+          pub not-refused : some hasLeast L ≡ false → filled work n fill rule scan masks ≡ swept L fill rule scan masks
           unfolding filled
           not-refused e = rw (a, b, c, d, e)
 

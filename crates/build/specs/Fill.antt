@@ -1,6 +1,7 @@
 -- The sweep as a part of its own: those of refusals 1 to 11 that its lists can meet, in order ("Input and answer", "How tight the promises are"), and what
 -- every lent list then holds.
-use mathlib.Core.Bool.{Bool, false, not, cond, _||_}
+use mathlib.Core.Path.{_≡_, refl}
+use mathlib.Core.Bool.{Bool, true, false, not, cond, _||_}
 use mathlib.Core.List.{List, [], _∷_, _++_}
 use Prim.Native.Nat.{ℕ, _*_}
 use lib.Dec.{ltb, eqb}
@@ -35,19 +36,29 @@ isShort n work masks = ltb segmentLimit n || (ltb work (6 * n) || ltb masks n)
 unfoldable pub isBad : ℕ → ℕ → Bool
 isBad fill rule = ltb 3 fill || ltb 6 rule
 
-abbrev pub least : ℤ → Bool
-least z = sameZ z (negsuc 2147483647)
+-- 3
+abbrev pub isOff : Segment → Bool
+isOff v = not (gridSegment v)
 
--- 3 to 5, of one segment, by document 01's number
+-- 4
+abbrev pub isPoint : Segment → Bool
+isPoint v = samePoint (v .a) (v .b)
+
+-- 5
+abbrev pub isLeast : ℤ → Bool
+isLeast z = sameZ z (negsuc 2147483647)
+
+abbrev pub hasLeast : Segment → Bool
+hasLeast v = isLeast (v .subject .0) || isLeast (v .clip .0)
+
+-- these three by document 01's number
 unfoldable pub fault : ℕ → Segment → Bool
-fault k v =
-    cond (eqb k 3) (not (gridSegment v))
-    (cond (eqb k 4) (samePoint (v .a) (v .b)) (least (v .subject .0) || least (v .clip .0)))
+fault k = cond (eqb k 3) isOff (cond (eqb k 4) isPoint hasLeast)
 
--- and of a list: some segment has it
-unfoldable pub some : ℕ → List Segment → Bool
-some k [] = false
-some k (v ∷ L) = fault k v || some k L
+-- some segment has the fault
+unfoldable pub some : (Segment → Bool) → List Segment → Bool
+some has [] = false
+some has (v ∷ L) = has v || some has L
 
 -- ---- the outcome
 
@@ -78,6 +89,24 @@ filled work n fill rule scan masks =
     let r = swept L fill rule scan masks in
     cond (isShort n (length work) (length masks)) (outcome Short scan masks)
     (cond (isBad fill rule) (outcome BadRule scan masks)
-    (cond (some 3 L) (outcome OffGrid scan masks)
-    (cond (some 4 L) (outcome NoLength scan masks)
-    (cond (some 5 L) (outcome BadCount scan masks) r))))
+    (cond (some isOff L) (outcome OffGrid scan masks)
+    (cond (some isPoint L) (outcome NoLength scan masks)
+    (cond (some hasLeast L) (outcome BadCount scan masks) r))))
+
+-- ---- the answer's number, by the table's sentences in its order
+
+through : {A B : Type 0} (f : A → B) (t : Bool) {x y : A} {z w : B} → f x ≡ z → f y ≡ w → f (cond t x y) ≡ cond t z w
+through f true p q = p
+through f false p q = q
+
+pub numbered : (work : List ℤ) (n fill rule : ℕ) (scan : List ℤ) (masks : List ℕ) → let L = rowsFrom segments work 0 n in
+    numberOf (filled work n fill rule scan masks .answer)
+    ≡ cond (isShort n (length work) (length masks)) 1 (cond (isBad fill rule) 2 (cond (some isOff L) 3 (cond (some isPoint L) 4 (cond (some hasLeast L) 5 (cond (crowded (scanRoom (length scan)) L) 11 0)))))
+unfolding filled swept
+numbered work n fill rule scan masks =
+    let L = rowsFrom segments work 0 n in
+    let f : Outcome → ℕ = λ o. numberOf (o .answer) in
+    through f (isShort n (length work) (length masks)) refl
+    (through f (isBad fill rule) refl
+    (through f (some isOff L) refl
+    (through f (some isPoint L) refl (through f (some hasLeast L) refl (through f (crowded (scanRoom (length scan)) L) refl refl)))))

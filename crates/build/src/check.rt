@@ -4,7 +4,7 @@ ghost use Prim.Native.Nat.{_*_, _≤_};
 ghost use lib.ListN.{length};
 ghost use Rattle.whole.specs.Kind.{rowsFrom};
 ghost use Rattle.geom.specs.Rows.{segments};
-ghost use Rattle.build.specs.Fill.{isShort, isBad, least, fault, some};
+ghost use Rattle.build.specs.Fill.{isShort, isBad, isLeast, fault, some};
 use geom::Count;
 use geom::Segment;
 
@@ -34,7 +34,7 @@ pub(crate) fn is_bad(fill: u32, rule: u32) -> bool
 // 3 to 5: whether some segment has the fault.
 pub(crate) fn some_fault(work: &[i32], n: usize, number: u8) -> bool
     requires { ⌜ 6 * n ≤ length (now work) ⌝ }
-    ensures { λ r. ⌜ r ≡ some number (rowsFrom segments (now (work .entry)) 0 n) ⌝ }
+    ensures { λ r. ⌜ r ≡ some (fault number) (rowsFrom segments (now (work .entry)) 0 n) ⌝ }
 {
     for i in 0..n {
         if has_fault(geom::read(work, i), number) {
@@ -60,7 +60,7 @@ fn has_fault(v: Segment, number: u8) -> bool
 }
 
 fn is_least(c: Count) -> bool
-    ensures { λ r. ⌜ r ≡ least (c .0) ⌝ }
+    ensures { λ r. ⌜ r ≡ isLeast (c .0) ⌝ }
 {
     c.0 == -2147483648
 }

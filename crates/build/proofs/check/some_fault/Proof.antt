@@ -13,20 +13,20 @@ use Rattle.build.proofs.check.some_fault.Statement.{statement}
 use Rattle.build.proofs.check.some_fault.Tie as tie
 
 abbrev Inv-loop : tie.InvT-loop
-Inv-loop work n number i₀ i = (i ≤ n) × (some number (rowsFrom segments work i (n - i)) ≡ some number (rowsFrom segments work 0 n))
+Inv-loop work n number i₀ i = (i ≤ n) × (some (fault number) (rowsFrom segments work i (n - i)) ≡ some (fault number) (rowsFrom segments work 0 n))
 
 abbrev μ-loop : tie.MeasureT-loop
 μ-loop work n number i₀ i = n - i
 
 -- what is left, from the segment that is met
-met : (c : tie.After-has-fault Inv-loop μ-loop) → let l = c .before .before .before in let a = l .before .args in some (a .number) (rowsFrom segments (a .work .now) 0 (a .n)) ≡ (c .has-fault .result || some (a .number) (rowsFrom segments (a .work .now) (l .loop .i + 1) (a .n - (l .loop .i + 1))))
+met : (c : tie.After-has-fault Inv-loop μ-loop) → let l = c .before .before .before in let a = l .before .args in some (fault (a .number)) (rowsFrom segments (a .work .now) 0 (a .n)) ≡ (c .has-fault .result || some (fault (a .number)) (rowsFrom segments (a .work .now) (l .loop .i + 1) (a .n - (l .loop .i + 1))))
 unfolding some
 met c =
     let l = c .before .before .before in
     let a = l .before .args in
     sym (l .loop .inv .1)
-    ∙ ap (some (a .number)) (rows-step segments (a .work .now) (a .n) (l .loop .i) (omega arith))
-    ∙ ap (λ b. b || some (a .number) (rowsFrom segments (a .work .now) (l .loop .i + 1) (a .n - (l .loop .i + 1)))) (sym (c .has-fault .ensures ∙ ap (fault (a .number)) (c .before .read .ensures)))
+    ∙ ap (some (fault (a .number))) (rows-step segments (a .work .now) (a .n) (l .loop .i) (omega arith))
+    ∙ ap (λ b. b || some (fault (a .number)) (rowsFrom segments (a .work .now) (l .loop .i + 1) (a .n - (l .loop .i + 1)))) (sym (c .has-fault .ensures ∙ ap (fault (a .number)) (c .before .read .ensures)))
 
 loop-holds : tie.Need-loop-holds Inv-loop μ-loop
 loop-holds c = (omega arith, rw (sub-zero (c .args .n)))
@@ -54,7 +54,7 @@ unfolding some
 returns-2 c =
     let l = c .before in
     let a = l .before .args in
-    sym (ap (some (a .number)) (rows-done segments (a .work .now) (a .n) (l .loop .i) (omega arith))) ∙ l .loop .inv .1
+    sym (ap (some (fault (a .number))) (rows-done segments (a .work .now) (a .n) (l .loop .i) (omega arith))) ∙ l .loop .inv .1
 
 pub some-fault-spec : {M : Type 1} → statement M
 some-fault-spec =

@@ -8,17 +8,17 @@ use borrow.Author.Needs.{needs, sfits-of}
 use Rattle.build.proofs.sums.add_if.Statement.{statement}
 use Rattle.build.proofs.sums.add_if.Tie as tie
 
-s1 : (c : tie.Start) → SFits w64 (c .args .s .subject)
-s1 c = search needs
+s-subject : (c : tie.Start) → SFits w64 (c .args .s .subject)
+s-subject c = search needs
 
-t1 : (c : tie.Start) → SFits w64 (c .args .t .subject)
-t1 c = search needs
+t-subject : (c : tie.Start) → SFits w64 (c .args .t .subject)
+t-subject c = search needs
 
-s2 : (c : tie.Start) → SFits w64 (c .args .s .clip)
-s2 c = search needs
+s-clip : (c : tie.Start) → SFits w64 (c .args .s .clip)
+s-clip c = search needs
 
-t2 : (c : tie.Start) → SFits w64 (c .args .t .clip)
-t2 c = search needs
+t-clip : (c : tie.Start) → SFits w64 (c .args .t .clip)
+t-clip c = search needs
 
 plus-requires : tie.Need-plus-requires
 plus-requires c κs = search needs
@@ -26,18 +26,18 @@ plus-requires c κs = search needs
 plus-requires-2 : tie.Need-plus-requires-2
 plus-requires-2 c κs = search needs
 
-added : (c : tie.After-plus) → let a = c .before .before .before .before .args in toZ w64 (ofZ w64 (c .plus .result)) ≡ a .s .subject +ℤ a .t .subject
-added c =
+subject-sum : (c : tie.After-plus) → let a = c .before .before .before .before .args in toZ w64 (ofZ w64 (c .plus .result)) ≡ a .s .subject +ℤ a .t .subject
+subject-sum c =
     let s = c .before .before .before .before in
-    toZ-ofZ (sfits-of (c .plus .ok)) ∙ c .plus .ensures ∙ rw (toZ-ofZ (s1 s), toZ-ofZ (t1 s))
+    toZ-ofZ (sfits-of (c .plus .ok)) ∙ c .plus .ensures ∙ rw (toZ-ofZ (s-subject s), toZ-ofZ (t-subject s))
 
-added-clip : (c : tie.After-plus2) → let a = c .before .before .before .before .before .before .before .args in toZ w64 (ofZ w64 (c .plus2 .result)) ≡ a .s .clip +ℤ a .t .clip
-added-clip c =
+clip-sum : (c : tie.After-plus2) → let a = c .before .before .before .before .before .before .before .args in toZ w64 (ofZ w64 (c .plus2 .result)) ≡ a .s .clip +ℤ a .t .clip
+clip-sum c =
     let s = c .before .before .before .before .before .before .before in
-    toZ-ofZ (sfits-of (c .plus2 .ok)) ∙ c .plus2 .ensures ∙ rw (toZ-ofZ (s2 s), toZ-ofZ (t2 s))
+    toZ-ofZ (sfits-of (c .plus2 .ok)) ∙ c .plus2 .ensures ∙ rw (toZ-ofZ (s-clip s), toZ-ofZ (t-clip s))
 
 returns : tie.Need-returns
-returns c = let p = c .before .before .before in rw (p .before .before .before .if1 .taken, added p, added-clip c)
+returns c = let p = c .before .before .before in rw (p .before .before .before .if1 .taken, subject-sum p, clip-sum c)
 
 returns-2 : tie.Need-returns-2
 returns-2 c = search needs

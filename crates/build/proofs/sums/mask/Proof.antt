@@ -15,17 +15,17 @@ use Rattle.build.specs.Scan.{maskBy}
 use Rattle.build.proofs.sums.mask.Statement.{statement}
 use Rattle.build.proofs.sums.mask.Tie as tie
 
-s1 : (c : tie.Start) → SFits w64 (c .args .s .subject)
-s1 c = search needs
+s-subject : (c : tie.Start) → SFits w64 (c .args .s .subject)
+s-subject c = search needs
 
-s2 : (c : tie.Start) → SFits w64 (c .args .s .clip)
-s2 c = search needs
+s-clip : (c : tie.Start) → SFits w64 (c .args .s .clip)
+s-clip c = search needs
 
-v1 : (c : tie.Start) → SFits w32 (c .args .e .subject .0)
-v1 c = search needs
+e-subject : (c : tie.Start) → SFits w32 (c .args .e .subject .0)
+e-subject c = search needs
 
-v2 : (c : tie.Start) → SFits w32 (c .args .e .clip .0)
-v2 c = search needs
+e-clip : (c : tie.Start) → SFits w32 (c .args .e .clip .0)
+e-clip c = search needs
 
 wide-requires : tie.Need-wide-requires
 wide-requires c κs = search needs
@@ -33,7 +33,7 @@ wide-requires c κs = search needs
 plus-requires : tie.Need-plus-requires
 plus-requires c κs =
     let s = c .before .before .before in
-    rw (toZ-ofZ (s1 s), held (c .before .wide .ensures ∙ toZ-ofZ (v1 s)) (widen (v1 s))) (s .pre .0)
+    rw (toZ-ofZ (s-subject s), held (c .before .wide .ensures ∙ toZ-ofZ (e-subject s)) (widen (e-subject s))) (s .pre .0)
 
 wide-requires-2 : tie.Need-wide-requires-2
 wide-requires-2 c κs = search needs
@@ -41,7 +41,7 @@ wide-requires-2 c κs = search needs
 plus-requires-2 : tie.Need-plus-requires-2
 plus-requires-2 c κs =
     let s = c .before .before .before .before .before .before .before in
-    rw (toZ-ofZ (s2 s), held (c .before .wide2 .ensures ∙ toZ-ofZ (v2 s)) (widen (v2 s))) (s .pre .1)
+    rw (toZ-ofZ (s-clip s), held (c .before .wide2 .ensures ∙ toZ-ofZ (e-clip s)) (widen (e-clip s))) (s .pre .1)
 
 inside-requires : tie.Need-inside-requires
 inside-requires c κs = search needs
@@ -68,15 +68,15 @@ bit-if-requires-4 : tie.Need-bit-if-requires-4
 bit-if-requires-4 c κs = search needs
 
 -- the two tops
-top1 : (c : tie.After-plus) → let s = c .before .before .before .before in toZ w64 (ofZ w64 (c .plus .result)) ≡ s .args .s .subject +ℤ s .args .e .subject .0
-top1 c =
+subject-top : (c : tie.After-plus) → let s = c .before .before .before .before in toZ w64 (ofZ w64 (c .plus .result)) ≡ s .args .s .subject +ℤ s .args .e .subject .0
+subject-top c =
     let s = c .before .before .before .before in
-    toZ-ofZ (sfits-of (c .plus .ok)) ∙ c .plus .ensures ∙ rw (toZ-ofZ (s1 s), held (c .before .before .wide .ensures ∙ toZ-ofZ (v1 s)) (widen (v1 s)))
+    toZ-ofZ (sfits-of (c .plus .ok)) ∙ c .plus .ensures ∙ rw (toZ-ofZ (s-subject s), held (c .before .before .wide .ensures ∙ toZ-ofZ (e-subject s)) (widen (e-subject s)))
 
-top2 : (c : tie.After-plus2) → let s = c .before .before .before .before .before .before .before .before in toZ w64 (ofZ w64 (c .plus2 .result)) ≡ s .args .s .clip +ℤ s .args .e .clip .0
-top2 c =
+clip-top : (c : tie.After-plus2) → let s = c .before .before .before .before .before .before .before .before in toZ w64 (ofZ w64 (c .plus2 .result)) ≡ s .args .s .clip +ℤ s .args .e .clip .0
+clip-top c =
     let s = c .before .before .before .before .before .before .before .before in
-    toZ-ofZ (sfits-of (c .plus2 .ok)) ∙ c .plus2 .ensures ∙ rw (toZ-ofZ (s2 s), held (c .before .before .wide2 .ensures ∙ toZ-ofZ (v2 s)) (widen (v2 s)))
+    toZ-ofZ (sfits-of (c .plus2 .ok)) ∙ c .plus2 .ensures ∙ rw (toZ-ofZ (s-clip s), held (c .before .before .wide2 .ensures ∙ toZ-ofZ (e-clip s)) (widen (e-clip s)))
 
 abbrev start : tie.After-bit-if4 → tie.Start
 start c = c .before .before .before .before .before .before .before .before .before .before .before .before .before .before .before .before .before .before
@@ -84,17 +84,17 @@ start c = c .before .before .before .before .before .before .before .before .bef
 as-bit : {r : ℕ} (v : ℕ) {t u : Bool} → r ≡ v * flag t → t ≡ u → r ≡ v * flag u
 as-bit v e h = e ∙ ap (λ (t : Bool). v * flag t) h
 
-bit1 : (c : tie.After-bit-if4) → let s = start c in c .before .before .before .before .before .before .before .before .bit-if .result ≡ 1 * flag (inside (s .args .fill) (s .args .s .subject +ℤ s .args .e .subject .0))
-bit1 c = let b = c .before .before .before .before .before .before .before .before in as-bit 1 (b .bit-if .ensures) (b .before .inside .ensures ∙ ap (inside (start c .args .fill)) (top1 (b .before .before .before .before .before .before)))
+bit-one : (c : tie.After-bit-if4) → let s = start c in c .before .before .before .before .before .before .before .before .bit-if .result ≡ 1 * flag (inside (s .args .fill) (s .args .s .subject +ℤ s .args .e .subject .0))
+bit-one c = let b = c .before .before .before .before .before .before .before .before in as-bit 1 (b .bit-if .ensures) (b .before .inside .ensures ∙ ap (inside (start c .args .fill)) (subject-top (b .before .before .before .before .before .before)))
 
-bit2 : (c : tie.After-bit-if4) → let s = start c in c .before .before .before .before .before .bit-if2 .result ≡ 2 * flag (inside (s .args .fill) (s .args .s .subject))
-bit2 c = let b = c .before .before .before .before .before in as-bit 2 (b .bit-if2 .ensures) (b .before .inside2 .ensures ∙ ap (inside (start c .args .fill)) (toZ-ofZ (s1 (start c))))
+bit-two : (c : tie.After-bit-if4) → let s = start c in c .before .before .before .before .before .bit-if2 .result ≡ 2 * flag (inside (s .args .fill) (s .args .s .subject))
+bit-two c = let b = c .before .before .before .before .before in as-bit 2 (b .bit-if2 .ensures) (b .before .inside2 .ensures ∙ ap (inside (start c .args .fill)) (toZ-ofZ (s-subject (start c))))
 
-bit3 : (c : tie.After-bit-if4) → let s = start c in c .before .before .before .bit-if3 .result ≡ 4 * flag (inside (s .args .fill) (s .args .s .clip +ℤ s .args .e .clip .0))
-bit3 c = let b = c .before .before .before in as-bit 4 (b .bit-if3 .ensures) (b .before .inside3 .ensures ∙ ap (inside (start c .args .fill)) (top2 (b .before .before .before .before .before .before .before)))
+bit-four : (c : tie.After-bit-if4) → let s = start c in c .before .before .before .bit-if3 .result ≡ 4 * flag (inside (s .args .fill) (s .args .s .clip +ℤ s .args .e .clip .0))
+bit-four c = let b = c .before .before .before in as-bit 4 (b .bit-if3 .ensures) (b .before .inside3 .ensures ∙ ap (inside (start c .args .fill)) (clip-top (b .before .before .before .before .before .before .before)))
 
-bit4 : (c : tie.After-bit-if4) → let s = start c in c .bit-if4 .result ≡ 8 * flag (inside (s .args .fill) (s .args .s .clip))
-bit4 c = as-bit 8 (c .bit-if4 .ensures) (c .before .inside4 .ensures ∙ ap (inside (start c .args .fill)) (toZ-ofZ (s2 (start c))))
+bit-eight : (c : tie.After-bit-if4) → let s = start c in c .bit-if4 .result ≡ 8 * flag (inside (s .args .fill) (s .args .s .clip))
+bit-eight c = as-bit 8 (c .bit-if4 .ensures) (c .before .inside4 .ensures ∙ ap (inside (start c .args .fill)) (toZ-ofZ (s-clip (start c))))
 
 at-most : {r : ℕ} (v : ℕ) (t : Bool) → r ≡ v * flag t → r ≤ v
 at-most v true e = omega arith
@@ -114,7 +114,7 @@ add-result-3 c = omega (arith, few c)
 
 returns : tie.Need-returns
 unfolding maskBy
-returns c = (omega (arith, bit1 c, bit2 c, bit3 c, bit4 c), omega (arith, few c))
+returns c = (omega (arith, bit-one c, bit-two c, bit-four c, bit-eight c), omega (arith, few c))
 
 pub mask-spec : {M : Type 1} → statement M
 mask-spec =

@@ -1,0 +1,165 @@
+-- What answer 0 says of the outcome of a run: the checks 1 to 6 passed, the looks settled, and the work and mask lists begin with the edges and their bytes.
+use mathlib.Core.Path.{_≡_, refl, sym, ap, ap₂, _∙_, subst}
+use mathlib.Core.Bool.{Bool, true, false, not, cond}
+use mathlib.Core.List.{List, [], _∷_, map}
+use mathlib.Core.Logic.{_≢_}
+use Prim.Native.Nat.{ℕ, zero, suc, _+_, _-_}
+use native.Mathlib.Omega.{arith}
+use lib.IntN.{ℤ}
+use lib.Dec.{eqb, ltb}
+use lib.ListN.{length, take, length-map}
+use lib.Seq.{take-append-seam}
+use Rattle.whole.specs.Kind.{rowsFrom}
+use Rattle.whole.specs.KindLaws.{rows-front}
+use Rattle.whole.specs.Sum.{All, none, also}
+use Rattle.geom.specs.declared.Segment.{Segment}
+use Rattle.geom.specs.Limits.{workRoom, markRoom, scanRoom}
+use Rattle.geom.specs.Rows.{segments}
+use Rattle.geom.specs.Tests.{samePoint?, when-false}
+use Rattle.segm.specs.MergeLaws.{neither}
+use Rattle.segm.specs.Forward.{forward, sorted}
+use Rattle.segm.specs.Merge.{merged, tooBig}
+use Rattle.segm.specs.Balance.{closed}
+use Rattle.split.specs.Look.{look, tidy}
+use Rattle.build.specs.Masks.{byteOf, bytes, crowded}
+use Rattle.overlay.specs.declared.answer.Settings.{Settings}
+use Rattle.overlay.specs.declared.answer.Answer.{Answer}
+use Rattle.overlay.specs.declared.answer.Answer.the-variants.{Settled, Unsettled, Short, BadSettings, OffGrid, NoLength, BadCount, Open, ScanFull}
+use Rattle.overlay.specs.Checks.{isShort, isBad, some, isOff, isPoint, hasLeast, isOpen}
+use Rattle.overlay.specs.Numbers.{told}
+use Rattle.overlay.specs.Looks.{Ran, settled, refused, radius, joined, lookAt, looksFrom, ran}
+use Rattle.overlay.specs.Outcome.{Lent, Outcome, unchanged, zeros, cleared, finished, swept, outcome}
+use Rattle.demands.specs.Chain.{cut, Chain, run-chain}
+use Rattle.demands.specs.Ordered.{HasLength}
+
+-- the segments of the input
+abbrev pub given : List ℤ → Settings → List Segment
+given input s = rowsFrom segments input 0 (s .n)
+
+-- the first m segments of the work list
+abbrev pub edges : Outcome → ℕ → List Segment
+edges o m = rowsFrom segments (o .lists .work) 0 m
+
+pub record Answered (input : List ℤ) (s : Settings) (o : Outcome) (m looks : ℕ) : Type 0 where
+  pub lengths : All HasLength (given input s)
+  pub even : closed (given input s) ≡ true
+  pub chain : Chain (given input s) (edges o m) looks
+  pub number : length (edges o m) ≡ m
+  pub bytes : take m (o .lists .masks) ≡ bytes (s .fill) (s .rule) (edges o m)
+
+lengths-of : (L : List Segment) → some isPoint L ≡ false → All HasLength L
+unfolding some
+lengths-of [] e = none
+lengths-of (v ∷ L) e = let n = neither (isPoint v) (some isPoint L) e in also (when-false (samePoint? (v .a) (v .b)) (n .0)) (lengths-of L (n .1))
+
+-- ---- a refusal is not answer 0
+
+abbrev Refusal : Answer → Type 0
+Refusal a = told a .number ≢ 0
+
+not-settled : {a : Answer} {m looks : ℕ} → Refusal a → a ≢ Settled m looks
+not-settled n e = n (ap (λ x. told x .number) e)
+
+data Proper : Ran → Type 0 where
+  list : {L : List Segment} {looks : ℕ} → Proper (settled L looks)
+  refusal : {a : Answer} → Refusal a → Proper (refused a)
+
+first-of : (b : Bool) {x y : Ran} → Proper x → Proper y → Proper (cond b x y)
+first-of true p q = p
+first-of false p q = q
+
+joined-proper : (K : List Segment) (f : List Segment → Ran) → ((L : List Segment) → Proper (f L)) → Proper (joined K f)
+unfolding joined
+joined-proper K f h = first-of (tooBig (sorted K)) (refusal (λ e. omega arith)) (h (merged (sorted K)))
+
+module _ (room work : ℕ) where
+  look-proper : (final : Bool) (made : ℕ) (L : List Segment) (f : List Segment → Ran) → ((K : List Segment) → Proper (f K)) → Proper (lookAt room work final made L f)
+  unfolding lookAt
+  look-proper final made L f h =
+      first-of (eqb (length L) 0) list
+      (first-of (ltb room (length (look radius L))) (refusal (λ e. omega arith))
+      (first-of (eqb (length (look radius L)) 0) list
+      (first-of final (refusal (λ e. omega arith))
+      (first-of (ltb work (length L + length (tidy (look radius L)))) (refusal (λ e. omega arith)) (joined-proper (cut L) f h)))))
+
+  looks-proper : (left made : ℕ) (L : List Segment) → Proper (looksFrom room work left made L)
+  unfolding looksFrom
+  looks-proper zero made L = look-proper true made L (λ K. refused Unsettled) (λ K. refusal (λ e. omega arith))
+  looks-proper (suc left) made L = look-proper false made L (looksFrom room work left (suc made)) (looks-proper left (suc made))
+
+  ran-proper : (budget : ℕ) (L : List Segment) → Proper (ran room work budget L)
+  unfolding ran
+  ran-proper budget L = joined-proper (map forward L) (looksFrom room work (budget - 1) 0) (looks-proper (budget - 1) 0)
+
+-- ---- the sweep of what the looks come to
+
+record Swept (s : Settings) (l : Lent) (r : Ran) (o : Outcome) (m looks : ℕ) : Type 0 where
+  pub list : List Segment
+  pub ran : r ≡ settled list looks
+  pub number : length list ≡ m
+  pub outcome : o ≡ finished s l list looks
+
+module _ (s : Settings) (l : Lent) (m looks : ℕ) where
+  swept-settled : {r : Ran} → Proper r → swept s l r .answer ≡ Settled m looks → Swept s l r (swept s l r) m looks
+  unfolding swept finished
+  swept-settled (refusal n) e = absurd (not-settled n e)
+  swept-settled (list {L = L} {looks = k}) e = go (crowded (scanRoom (length (l .scan))) L) e
+    where
+      go : (b : Bool) → cond b (cleared l ScanFull) (finished s l L k) .answer ≡ Settled m looks → Swept s l (settled L k) (cond b (cleared l ScanFull) (finished s l L k)) m looks
+      go true h = absurd (not-settled (λ z. omega arith) h)
+      go false h = let n : k ≡ looks = cc in record { list = L; ran = ap (settled L) n; number = cc; outcome = ap (finished s l L) n }
+
+-- ---- one check after the other
+
+passed : (b : Bool) (x r : Outcome) {m looks : ℕ} → Refusal (x .answer) → cond b x r .answer ≡ Settled m looks → (b ≡ false) × (r .answer ≡ Settled m looks) × (cond b x r ≡ r)
+passed true x r n e = absurd (not-settled n e)
+passed false x r n e = (refl, e, refl)
+
+module _ (input : List ℤ) (s : Settings) (l : Lent) (m looks : ℕ) where
+  abbrev result : Ran
+  result = ran (markRoom (length (l .marks))) (workRoom (length (l .work))) (s .budget) (given input s)
+
+  list-given : (o : Outcome) (w : Swept s l result o m looks) → edges o m ≡ w .list
+  unfolding finished
+  list-given o w = ap₂ edges (w .outcome) (sym (w .number)) ∙ rows-front segments (zeros (l .work)) (w .list)
+
+  bytes-given : (o : Outcome) (w : Swept s l result o m looks) → take m (o .lists .masks) ≡ bytes (s .fill) (s .rule) (w .list)
+  unfolding finished
+  bytes-given o w =
+      let k : m ≡ length (bytes (s .fill) (s .rule) (w .list)) = sym (w .number) ∙ sym (length-map (w .list) (byteOf (s .fill) (s .rule) (w .list))) in
+      ap₂ (λ x n. take n (x .lists .masks)) (w .outcome) k ∙ take-append-seam (bytes (s .fill) (s .rule) (w .list)) _
+
+  given-by : (o : Outcome) → some isPoint (given input s) ≡ false → isOpen (given input s) ≡ false → Swept s l result o m looks → Answered input s o m looks
+  given-by o p c w =
+      let e = list-given o w in
+      record {
+        lengths = lengths-of (given input s) p;
+        even = not-open (closed (given input s)) c;
+        chain = subst (λ K. Chain (given input s) K looks) (sym e) (run-chain _ _ (s .budget) (given input s) (w .list) looks (w .ran));
+        number = ap length e ∙ w .number;
+        bytes = bytes-given o w ∙ ap (bytes (s .fill) (s .rule)) (sym e);
+      }
+    where
+      not-open : (b : Bool) → not b ≡ false → b ≡ true
+      not-open true h = refl
+      not-open false h = sym h
+
+  -- THE THEOREM
+  pub answered : outcome input s l .answer ≡ Settled m looks → Answered input s (outcome input s l) m looks
+  unfolding outcome
+  answered e =
+      let L = given input s in
+      let r5 = swept s l result in
+      let r4 = cond (isOpen L) (unchanged l Open) r5 in
+      let r3 = cond (some hasLeast L) (unchanged l BadCount) r4 in
+      let r2 = cond (some isPoint L) (unchanged l NoLength) r3 in
+      let r1 = cond (some isOff L) (unchanged l OffGrid) r2 in
+      let r0 = cond (isBad s) (unchanged l BadSettings) r1 in
+      let p1 = passed (isShort (s .n) (length input) (length (l .work)) (length (l .masks))) (unchanged l Short) r0 (λ z. omega arith) e in
+      let p2 = passed (isBad s) (unchanged l BadSettings) r1 (λ z. omega arith) (p1 .1) in
+      let p3 = passed (some isOff L) (unchanged l OffGrid) r2 (λ z. omega arith) (p2 .1) in
+      let p4 = passed (some isPoint L) (unchanged l NoLength) r3 (λ z. omega arith) (p3 .1) in
+      let p5 = passed (some hasLeast L) (unchanged l BadCount) r4 (λ z. omega arith) (p4 .1) in
+      let p6 = passed (isOpen L) (unchanged l Open) r5 (λ z. omega arith) (p5 .1) in
+      subst (λ o. Answered input s o m looks) (sym (p1 .2 ∙ p2 .2 ∙ p3 .2 ∙ p4 .2 ∙ p5 .2 ∙ p6 .2))
+      (given-by r5 (p4 .0) (p6 .0) (swept-settled s l m looks (ran-proper _ _ (s .budget) L) (p6 .1)))
