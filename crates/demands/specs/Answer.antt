@@ -22,13 +22,15 @@ use Rattle.segm.specs.Merge.{merged, tooBig}
 use Rattle.segm.specs.Balance.{closed}
 use Rattle.split.specs.Look.{look, tidy}
 use Rattle.build.specs.Masks.{byteOf, bytes, crowded}
-use Rattle.overlay.specs.declared.answer.Settings.{Settings}
+use Rattle.checks.specs.declared.Settings.{Settings}
+use Rattle.checks.specs.declared.Fault.{Fault}
+use Rattle.checks.specs.declared.Fault.the-variants.{Sound, Short, BadSettings, OffGrid, NoLength, BadCount, Open}
+use Rattle.checks.specs.Checks.{isShort, isBad, some, isOff, isPoint, hasLeast, isOpen, faultOf, number}
 use Rattle.overlay.specs.declared.answer.Answer.{Answer}
-use Rattle.overlay.specs.declared.answer.Answer.the-variants.{Settled, Unsettled, Short, BadSettings, OffGrid, NoLength, BadCount, Open, ScanFull}
-use Rattle.overlay.specs.Checks.{isShort, isBad, some, isOff, isPoint, hasLeast, isOpen}
+use Rattle.overlay.specs.declared.answer.Answer.the-variants.{Settled, Unsettled, ScanFull}
 use Rattle.overlay.specs.Numbers.{told}
 use Rattle.overlay.specs.Looks.{Ran, settled, refused, radius, joined, lookAt, looksFrom, ran}
-use Rattle.overlay.specs.Outcome.{Lent, Outcome, unchanged, zeros, cleared, finished, swept, outcome}
+use Rattle.overlay.specs.Outcome.{Lent, Outcome, zeros, cleared, finished, swept, unless, outcome}
 use Rattle.demands.specs.Chain.{cut, Chain, run-chain}
 use Rattle.demands.specs.Ordered.{HasLength}
 
@@ -111,9 +113,20 @@ module _ (s : Settings) (l : Lent) (m looks : ℕ) where
 
 -- ---- one check after the other
 
-passed : (b : Bool) (x r : Outcome) {m looks : ℕ} → Refusal (x .answer) → cond b x r .answer ≡ Settled m looks → (b ≡ false) × (r .answer ≡ Settled m looks) × (cond b x r ≡ r)
-passed true x r n e = absurd (not-settled n e)
-passed false x r n e = (refl, e, refl)
+passed : (b : Bool) (x r : Fault) → number x ≢ 0 → cond b x r ≡ Sound → (b ≡ false) × (r ≡ Sound)
+passed true x r n e = absurd (n (ap number e))
+passed false x r n e = (refl, e)
+
+sound : (input : List ℤ) (s : Settings) (work masks : ℕ) → faultOf input s work masks ≡ Sound → (some isPoint (given input s) ≡ false) × (isOpen (given input s) ≡ false)
+unfolding faultOf
+sound input s work masks e =
+    let p1 = passed (isShort (s .n) (length input) work masks) Short _ (λ z. omega arith) e in
+    let p2 = passed (isBad s) BadSettings _ (λ z. omega arith) (p1 .1) in
+    let p3 = passed (some isOff (given input s)) OffGrid _ (λ z. omega arith) (p2 .1) in
+    let p4 = passed (some isPoint (given input s)) NoLength _ (λ z. omega arith) (p3 .1) in
+    let p5 = passed (some hasLeast (given input s)) BadCount _ (λ z. omega arith) (p4 .1) in
+    let p6 = passed (isOpen (given input s)) Open Sound (λ z. omega arith) (p5 .1) in
+    (p4 .0, p6 .0)
 
 module _ (input : List ℤ) (s : Settings) (l : Lent) (m looks : ℕ) where
   abbrev result : Ran
@@ -144,22 +157,20 @@ module _ (input : List ℤ) (s : Settings) (l : Lent) (m looks : ℕ) where
       not-open true h = refl
       not-open false h = sym h
 
+  unless-sound : (f : Fault) → faultOf input s (length (l .work)) (length (l .masks)) ≡ f → unless f l (swept s l result) .answer ≡ Settled m looks
+      → Answered input s (unless f l (swept s l result)) m looks
+  unfolding unless
+  unless-sound Sound p e =
+      let h = sound input s (length (l .work)) (length (l .masks)) p in
+      given-by (swept s l result) (h .0) (h .1) (swept-settled s l m looks (ran-proper _ _ (s .budget) (given input s)) e)
+  unless-sound Short p e = absurd (not-settled (λ z. omega arith) e)
+  unless-sound BadSettings p e = absurd (not-settled (λ z. omega arith) e)
+  unless-sound OffGrid p e = absurd (not-settled (λ z. omega arith) e)
+  unless-sound NoLength p e = absurd (not-settled (λ z. omega arith) e)
+  unless-sound BadCount p e = absurd (not-settled (λ z. omega arith) e)
+  unless-sound Open p e = absurd (not-settled (λ z. omega arith) e)
+
   -- THE THEOREM
   pub answered : outcome input s l .answer ≡ Settled m looks → Answered input s (outcome input s l) m looks
   unfolding outcome
-  answered e =
-      let L = given input s in
-      let r5 = swept s l result in
-      let r4 = cond (isOpen L) (unchanged l Open) r5 in
-      let r3 = cond (some hasLeast L) (unchanged l BadCount) r4 in
-      let r2 = cond (some isPoint L) (unchanged l NoLength) r3 in
-      let r1 = cond (some isOff L) (unchanged l OffGrid) r2 in
-      let r0 = cond (isBad s) (unchanged l BadSettings) r1 in
-      let p1 = passed (isShort (s .n) (length input) (length (l .work)) (length (l .masks))) (unchanged l Short) r0 (λ z. omega arith) e in
-      let p2 = passed (isBad s) (unchanged l BadSettings) r1 (λ z. omega arith) (p1 .1) in
-      let p3 = passed (some isOff L) (unchanged l OffGrid) r2 (λ z. omega arith) (p2 .1) in
-      let p4 = passed (some isPoint L) (unchanged l NoLength) r3 (λ z. omega arith) (p3 .1) in
-      let p5 = passed (some hasLeast L) (unchanged l BadCount) r4 (λ z. omega arith) (p4 .1) in
-      let p6 = passed (isOpen L) (unchanged l Open) r5 (λ z. omega arith) (p5 .1) in
-      subst (λ o. Answered input s o m looks) (sym (p1 .2 ∙ p2 .2 ∙ p3 .2 ∙ p4 .2 ∙ p5 .2 ∙ p6 .2))
-      (given-by r5 (p4 .0) (p6 .0) (swept-settled s l m looks (ran-proper _ _ (s .budget) L) (p6 .1)))
+  answered e = unless-sound (faultOf input s (length (l .work)) (length (l .masks))) refl e

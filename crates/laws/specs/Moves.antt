@@ -10,7 +10,6 @@ use Rattle.whole.specs.Ring.{ring, reads}
 use Rattle.whole.specs.Sign.{mul-pos}
 use Rattle.whole.specs.Sum.{All, all-of, all-map, all-both, Over, over-same, over-none}
 use Rattle.plane.specs.Scaled.{at, spot, before-at}
-use Rattle.plane.specs.Mean.{mean-on}
 use Rattle.whole.specs.Test.{is-true, is-false, and-l, and-r, and-same, lt-of, le-of, eqZ-is}
 use Rattle.geom.specs.declared.Point.{Point}
 use Rattle.geom.specs.declared.Segment.{Segment}
@@ -26,7 +25,7 @@ use Rattle.laws.specs.Along.{along}
 use Rattle.laws.specs.Column.{under-right, under-left, upto, columns}
 use Rattle.laws.specs.Node.{upright-zero}
 use Rattle.laws.specs.Foot.{le-scaled, lt-scaled, u, v, foot, foot-on, foot-column, foot-height}
-use Rattle.laws.specs.Scale.{scaled, pos-scaled, alive-of, reaches-of}
+use Rattle.laws.specs.Scale.{one, on-start, on-finish, on-end, scaled, pos-scaled, alive-of, reaches-of}
 use Rattle.laws.specs.Level.{lower-off, bridge, fair-to}
 
 -- ---- a point off the grid, brought to the scale k
@@ -50,9 +49,6 @@ module _ (k m : ℤ) (R : Off) (hm : pos 0 <ℤ m) (e : k ≡ m *ℤ R .d) where
       (ap (λ h. ltZ (pos 0) h) (grown-cross t m R) ∙ pos-scaled ((m *ℤ R .d) *ℤ m) (mul-pos (mul-pos hm (R .over)) hm) (cross t R))
 
 -- ---- a point p on the line of t, between its ends by x: a point of t
-one : (z : ℤ) → pos 1 *ℤ z ≡ z
-one z = ring (z ∷ []) (search reads depth 20 fits 5000) tt
-
 record Through (t : Segment) (p : Point) : Type 0 where
   Z : Off
   on : On t Z
@@ -78,18 +74,6 @@ through t p h k r z =
         *ℤ-comm (foot t P s .d) (p .y .0),
       );
     }
-
-on-start : (S : Segment) (Z : Off) → Z .X ≡ Z .d *ℤ S .a .x .0 → Z .Y ≡ Z .d *ℤ S .a .y .0 → On S Z
-on-start S Z h k = mean-on {u = pos 0} {v = Z .d} (record { u-low = omega zz; v-low = omega (zz, Z .over); total = omega (zz, add-is (Z .d) (pos 0)); mean-x = h ∙ id (Z .d) (S .a .x .0) (S .b .x .0); mean-y = k ∙ id (Z .d) (S .a .y .0) (S .b .y .0) })
-  where
-    id : (d p q : ℤ) → d *ℤ p ≡ d *ℤ p +ℤ pos 0 *ℤ q
-    id d p q = ring (d ∷ p ∷ q ∷ []) (search reads depth 20 fits 5000) tt
-
-on-finish : (S : Segment) (Z : Off) → Z .X ≡ Z .d *ℤ S .b .x .0 → Z .Y ≡ Z .d *ℤ S .b .y .0 → On S Z
-on-finish S Z h k = mean-on {u = Z .d} {v = pos 0} (record { u-low = omega (zz, Z .over); v-low = omega zz; total = omega (zz, add-is (pos 0) (Z .d)); mean-x = h ∙ id (Z .d) (S .a .x .0) (S .b .x .0); mean-y = k ∙ id (Z .d) (S .a .y .0) (S .b .y .0) })
-  where
-    id : (d p q : ℤ) → d *ℤ q ≡ pos 0 *ℤ p +ℤ d *ℤ q
-    id d p q = ring (d ∷ p ∷ q ∷ []) (search reads depth 20 fits 5000) tt
 
 -- ---- the stretch from P to Q
 abbrev pub stretch : Off → Off → Segment
@@ -156,7 +140,7 @@ module _ (w : Segment → ℤ) (L : List Segment) (fwd : All (λ t. Before (t .a
           let b = eqZ-is {a = k *ℤ t .b .x .0} {b = q .x .0} (and-r A B (and-l (A && B) (C && D) c)) in
           let r = lt-of {a = k *ℤ t .a .y .0} {b = q .y .0} (and-l C D (and-r (A && B) (C && D) c)) in
           let s = le-of {a = q .y .0} {b = k *ℤ t .b .y .0} (and-r C D (and-r (A && B) (C && D) c)) in
-          n (grid q) (on-finish S (grid q) (sym (one (q .x .0))) (sym (one (q .y .0))))
+          n (grid q) (on-end S)
           (record {
             wide = rising (omega (zz, one (k *ℤ t .a .x .0))) (omega (zz, one (k *ℤ t .b .x .0)));
             high = rising (omega (zz, one (k *ℤ t .a .y .0))) (omega (zz, one (k *ℤ t .b .y .0)));

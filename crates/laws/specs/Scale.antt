@@ -1,10 +1,10 @@
 -- Edges scaled by k: the tests of x and of height are those of the edge itself, and so are its points. Segments without a common point are apart.
-use mathlib.Core.Path.{_≡_, refl, sym, _∙_, ap, ap₂, subst}
+use mathlib.Core.Path.{_≡_, sym, _∙_, ap, ap₂, subst}
 use mathlib.Core.List.{[], _∷_}
 use mathlib.Core.Bool.{true, _&&_}
 use lib.IntN.{ℤ, pos, _+ℤ_, _*ℤ_, *ℤ-zero}
 use lib.Signed.{leZ, ltZ, _≤ℤ_, _<ℤ_}
-use Rattle.whole.specs.Order.{zz}
+use Rattle.whole.specs.Order.{zz, add-is}
 use Rattle.whole.specs.Ring.{ring, reads}
 use Rattle.whole.specs.Sign.{mul-pos}
 use Rattle.plane.specs.Scaled.{at, spot}
@@ -20,15 +20,28 @@ use Rattle.build.specs.Masks.{alive}
 use Rattle.laws.specs.Sides.{reaches}
 use Rattle.laws.specs.Along.{moved}
 use Rattle.laws.specs.Node.{no-factor}
-use Rattle.laws.specs.Foot.{le-scaled, lt-scaled, u, v}
+use Rattle.laws.specs.Foot.{le-scaled, lt-scaled}
+
+-- ---- a point that is an end of S lies on it
+pub one : (z : ℤ) → pos 1 *ℤ z ≡ z
+one z = ring (z ∷ []) (search reads depth 20 fits 5000) tt
+
+pub on-start : (S : Segment) (Z : Off) → Z .X ≡ Z .d *ℤ S .a .x .0 → Z .Y ≡ Z .d *ℤ S .a .y .0 → On S Z
+on-start S Z h k = mean-on {u = pos 0} {v = Z .d} (record { u-low = omega zz; v-low = omega (zz, Z .over); total = omega (zz, add-is (Z .d) (pos 0)); mean-x = h ∙ id (Z .d) (S .a .x .0) (S .b .x .0); mean-y = k ∙ id (Z .d) (S .a .y .0) (S .b .y .0) })
+  where
+    id : (d p q : ℤ) → d *ℤ p ≡ d *ℤ p +ℤ pos 0 *ℤ q
+    id d p q = ring (d ∷ p ∷ q ∷ []) (search reads depth 20 fits 5000) tt
+
+pub on-finish : (S : Segment) (Z : Off) → Z .X ≡ Z .d *ℤ S .b .x .0 → Z .Y ≡ Z .d *ℤ S .b .y .0 → On S Z
+on-finish S Z h k = mean-on {u = Z .d} {v = pos 0} (record { u-low = omega (zz, Z .over); v-low = omega zz; total = omega (zz, add-is (pos 0) (Z .d)); mean-x = h ∙ id (Z .d) (S .a .x .0) (S .b .x .0); mean-y = k ∙ id (Z .d) (S .a .y .0) (S .b .y .0) })
+  where
+    id : (d p q : ℤ) → d *ℤ q ≡ pos 0 *ℤ p +ℤ d *ℤ q
+    id d p q = ring (d ∷ p ∷ q ∷ []) (search reads depth 20 fits 5000) tt
+
+pub on-end : (g : Segment) → On g (grid (g .b))
+on-end g = on-finish g (grid (g .b)) (sym (one (g .b .x .0))) (sym (one (g .b .y .0)))
 
 -- ---- segments without a common point are apart
-on-end : (g : Segment) → On g (grid (g .b))
-on-end g = mean-on {u = pos 1} {v = pos 0} (record { u-low = omega zz; v-low = omega zz; total = refl; mean-x = last (g .a .x .0) (g .b .x .0); mean-y = last (g .a .y .0) (g .b .y .0) })
-  where
-    last : (p q : ℤ) → q ≡ pos 0 *ℤ p +ℤ pos 1 *ℤ q
-    last p q = ring (p ∷ q ∷ []) (search reads depth 20 fits 5000) tt
-
 pub parted : (f g : Segment) → Before (f .a) (f .b) → Before (g .a) (g .b) → ((Z : Off) → On f Z → On g Z → ⊥) → Apart f g
 parted f g hf hg n = apart-exactly f g hf hg (λ s. n (grid (g .b)) (subst (λ z. On f (grid z)) (s .1) (on-end f)) (on-end g)) .1 (λ Z p q. absurd (n Z p q))
 

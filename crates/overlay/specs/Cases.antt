@@ -24,11 +24,11 @@ use Rattle.split.specs.Chain.{pointsOf, addTo, columns, nextY, lastOf, chainFro
 use Rattle.build.specs.Inside.{inside}
 use Rattle.build.specs.Keep.{kept}
 use Rattle.build.specs.Masks.{alive, lean, lower, under, below, bottom, top, live, maskOf, byteOf, crowdedFrom}
+use Rattle.checks.specs.declared.Settings.{Settings}
+use Rattle.checks.specs.Checks.{isShort, isBad, some, faultOf}
 use Rattle.overlay.specs.declared.answer.Answer.the-variants.{Settled, MarksFull, WorkFull, Unsettled, ScanFull}
-use Rattle.overlay.specs.declared.answer.Settings.{Settings}
-use Rattle.overlay.specs.Checks.{isShort, isBad, some}
 use Rattle.overlay.specs.Looks.{radius, joined, lookAt, looksFrom, ran}
-use Rattle.overlay.specs.Outcome.{Lent, Outcome, finished, swept, outcome}
+use Rattle.overlay.specs.Outcome.{Lent, Outcome, finished, swept, unless, outcome}
 
 -- ---- crossings
 
@@ -141,5 +141,5 @@ runs :
     ≡ record { answer = WorkFull; lists = record { work = replicate 67 (pos 0); marks = replicate 13 (pos 0); scan = replicate 13 (pos 0); masks = replicate 12 0 } })
     × (outcome squares (settings 2) (lent 12 4 3)
     ≡ record { answer = ScanFull; lists = record { work = replicate 73 (pos 0); marks = replicate 13 (pos 0); scan = replicate 10 (pos 0); masks = replicate 13 0 } })
-unfolding square squares settings lent edges marked pick lex insert sort rowAt flat rowsFrom front pass distinct Sum Over keep onGrid gridPoint gridSegment before between samePoint upright turn sideOf forward sameEnds plus groupsFrom groups isEmpty mergedFrom merged isFar anyFar balancedAt balancedOver closed inner level nearest quotient crossPoint onBoth far nearer reach snapped middle crossBy crossing one lineMarks kindMarks crossMarks marksWith lookFrom sameMark tidy pointsOf addTo columns nextY lastOf chainFrom piecesFrom splitFrom inside kept alive lean lower under below bottom top live maskOf byteOf crowdedFrom isShort isBad some joined lookAt looksFrom ran finished swept outcome
+unfolding square squares settings lent edges marked pick lex insert sort rowAt flat rowsFrom front pass distinct Sum Over keep onGrid gridPoint gridSegment before between samePoint upright turn sideOf forward sameEnds plus groupsFrom groups isEmpty mergedFrom merged isFar anyFar balancedAt balancedOver closed inner level nearest quotient crossPoint onBoth far nearer reach snapped middle crossBy crossing one lineMarks kindMarks crossMarks marksWith lookFrom sameMark tidy pointsOf addTo columns nextY lastOf chainFrom piecesFrom splitFrom inside kept alive lean lower under below bottom top live maskOf byteOf crowdedFrom isShort isBad some faultOf joined lookAt looksFrom ran finished swept unless outcome
 runs = (refl, refl, refl, refl, refl)

@@ -1,6 +1,5 @@
--- In reading order: the numbers of the answers; the checks 1 to 6; the looks 7 to 10; the whole outcome.
+-- In reading order: the numbers of the answers; the looks 7 to 10; the whole outcome.
 pub mod Numbers
-pub mod Checks
 pub mod Looks
 pub mod Outcome
 pub mod Cases

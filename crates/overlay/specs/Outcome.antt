@@ -9,10 +9,12 @@ use Rattle.geom.specs.declared.Segment.{Segment}
 use Rattle.geom.specs.Limits.{workRoom, markRoom, scanRoom}
 use Rattle.geom.specs.Rows.{segments}
 use Rattle.build.specs.Masks.{bytes, crowded}
-use Rattle.overlay.specs.declared.answer.Settings.{Settings}
+use Rattle.checks.specs.declared.Settings.{Settings}
+use Rattle.checks.specs.declared.Fault.{Fault}
+use Rattle.checks.specs.declared.Fault.the-variants as fault
+use Rattle.checks.specs.Checks.{faultOf}
 use Rattle.overlay.specs.declared.answer.Answer.{Answer}
 use Rattle.overlay.specs.declared.answer.Answer.the-variants.{Settled, Short, BadSettings, OffGrid, NoLength, BadCount, Open, ScanFull}
-use Rattle.overlay.specs.Checks.{isShort, isBad, some, isOff, isPoint, hasLeast, isOpen}
 use Rattle.overlay.specs.Looks.{Ran, settled, refused, ran}
 
 -- the lists that are lent to be written
@@ -58,14 +60,19 @@ unfoldable pub swept : Settings → Lent → Ran → Outcome
 swept s l (refused a) = cleared l a
 swept s l (settled L looks) = let r = finished s l L looks in cond (crowded (scanRoom (length (l .scan))) L) (cleared l ScanFull) r
 
+-- a fault of the input, or else what the run comes to
+unfoldable pub unless : Fault → Lent → Outcome → Outcome
+unless fault.Sound l r = r
+unless fault.Short l r = unchanged l Short
+unless fault.BadSettings l r = unchanged l BadSettings
+unless fault.OffGrid l r = unchanged l OffGrid
+unless fault.NoLength l r = unchanged l NoLength
+unless fault.BadCount l r = unchanged l BadCount
+unless fault.Open l r = unchanged l Open
+
 -- 1 to 6 in order, then the run
 unfoldable pub outcome : List ℤ → Settings → Lent → Outcome
 outcome input s l =
     let L = rowsFrom segments input 0 (s .n) in
     let r = swept s l (ran (markRoom (length (l .marks))) (workRoom (length (l .work))) (s .budget) L) in
-    cond (isShort (s .n) (length input) (length (l .work)) (length (l .masks))) (unchanged l Short)
-    (cond (isBad s) (unchanged l BadSettings)
-    (cond (some isOff L) (unchanged l OffGrid)
-    (cond (some isPoint L) (unchanged l NoLength)
-    (cond (some hasLeast L) (unchanged l BadCount)
-    (cond (isOpen L) (unchanged l Open) r)))))
+    unless (faultOf input s (length (l .work)) (length (l .masks))) l r

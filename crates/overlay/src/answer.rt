@@ -1,12 +1,4 @@
-// What is asked of a run, and what it answers.
-
-// The number of segments; the fill rule, 0 to 3; the overlay rule, 0 to 6; the budget of looks, 1 to 64.
-pub struct Settings {
-    pub n: usize,
-    pub fill: u32,
-    pub rule: u32,
-    pub budget: u32,
-}
+// What a run answers.
 
 pub enum Answer {
     // 0: no two edges meet except at ends of both. So many segments, after so many looks.

@@ -1,14 +1,19 @@
--- Refusals 1 to 6 ("Input and answer"), as tests: tried in that order, each over all segments before the next.
-use mathlib.Core.Bool.{Bool, true, false, not, cond, _&&_, _||_}
+-- Refusals 1 to 6 ("Input and answer"), as tests, and which of them is given.
+use mathlib.Core.Bool.{Bool, false, not, cond, _||_}
 use mathlib.Core.List.{List, [], _∷_}
 use Prim.Native.Nat.{ℕ, _*_}
 use lib.Dec.{ltb, eqb}
 use lib.IntN.{ℤ, negsuc}
+use lib.ListN.{length}
+use Rattle.whole.specs.Kind.{rowsFrom}
 use Rattle.geom.specs.declared.Segment.{Segment}
 use Rattle.geom.specs.Plane.{sameZ, samePoint, gridSegment}
 use Rattle.geom.specs.Limits.{segmentLimit, workRoom}
+use Rattle.geom.specs.Rows.{segments}
 use Rattle.segm.specs.Balance.{closed}
-use Rattle.overlay.specs.declared.answer.Settings.{Settings}
+use Rattle.checks.specs.declared.Fault.{Fault}
+use Rattle.checks.specs.declared.Fault.the-variants.{Sound, Short, BadSettings, OffGrid, NoLength, BadCount, Open}
+use Rattle.checks.specs.declared.Settings.{Settings}
 
 -- 1, from n and the lengths of the input, work and mask lists
 unfoldable pub isShort : ℕ → ℕ → ℕ → ℕ → Bool
@@ -38,3 +43,24 @@ hasLeast v = sameZ (v .subject .0) (negsuc 2147483647) || sameZ (v .clip .0) (ne
 -- 6
 abbrev pub isOpen : List Segment → Bool
 isOpen L = not (closed L)
+
+-- 1 to 6 in order, each over all segments before the next; the lengths of the work list and the masks
+unfoldable pub faultOf : List ℤ → Settings → ℕ → ℕ → Fault
+faultOf input s work masks =
+    let L = rowsFrom segments input 0 (s .n) in
+    cond (isShort (s .n) (length input) work masks) Short
+    (cond (isBad s) BadSettings
+    (cond (some isOff L) OffGrid
+    (cond (some isPoint L) NoLength
+    (cond (some hasLeast L) BadCount
+    (cond (isOpen L) Open Sound)))))
+
+-- its number in the table, and 0 for none
+abbrev pub number : Fault → ℕ
+number Sound = 0
+number Short = 1
+number BadSettings = 2
+number OffGrid = 3
+number NoLength = 4
+number BadCount = 5
+number Open = 6

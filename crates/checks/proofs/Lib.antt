@@ -1,0 +1,3 @@
+pub mod Some
+pub mod Tally
+pub mod Ends

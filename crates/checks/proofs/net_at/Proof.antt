@@ -1,0 +1,60 @@
+-- `checks::net_at` meets its contract: the loop keeps `Tally`, and each need is the law of its event.
+use Prim.Native.Nat.{_-_}
+use native.Mathlib.Omega.{arith}
+use borrow.Author.Needs.{needs}
+use Rattle.checks.proofs.Tally.{Tally, tally-start, tally-next, tally-end}
+use Rattle.checks.proofs.net_at.Statement.{statement}
+use Rattle.checks.proofs.net_at.Tie as tie
+
+abbrev Inv-loop : tie.InvT-loop
+Inv-loop rows n p net₀ i₀ net i = Tally p rows n i net
+
+abbrev μ-loop : tie.MeasureT-loop
+μ-loop rows n p net₀ i₀ net i = n - i
+
+loop-holds : tie.Need-loop-holds Inv-loop μ-loop
+loop-holds c = tally-start (c .args .p) (c .args .rows .now) (c .args .n)
+
+read-requires : tie.Need-read-requires Inv-loop μ-loop
+read-requires c κs = omega (arith, c .before .before .pre .1)
+
+started-requires : tie.Need-started-requires Inv-loop μ-loop
+started-requires c κs =
+    let l = c .before .before in
+    (omega (arith, l .loop .inv .subject, l .before .pre .0), omega (arith, l .loop .inv .clip, l .before .pre .0))
+
+ended-requires : tie.Need-ended-requires Inv-loop μ-loop
+ended-requires c κs =
+    let l = c .before .before .before in
+    let near = c .started .ensures .1 in
+    (omega (arith, l .loop .inv .subject, l .before .pre .0, near .0), omega (arith, l .loop .inv .clip, l .before .pre .0, near .1))
+
+add-i : tie.Need-add-i Inv-loop μ-loop
+add-i c = search needs
+
+loop-less : tie.Need-loop-less Inv-loop μ-loop
+loop-less c = search needs
+
+loop-again : tie.Need-loop-again Inv-loop μ-loop
+loop-again c =
+    let s = c .before in
+    let t = s .before .before in
+    tally-next (t .before .loop .inv) (t .loop-test .taken) (s .before .read .ensures) (s .started .ensures) (c .ended .ensures)
+
+returns : tie.Need-returns Inv-loop μ-loop
+returns c = tally-end (c .before .loop .inv) (c .loop-test .left)
+
+pub net-at-spec : {M : Type 1} → statement M
+net-at-spec =
+    tie.close
+    (tie.spec
+    Inv-loop
+    μ-loop
+    loop-holds
+    read-requires
+    started-requires
+    ended-requires
+    add-i
+    loop-less
+    loop-again
+    returns)

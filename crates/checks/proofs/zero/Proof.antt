@@ -1,0 +1,12 @@
+-- `checks::zero` meets its contract: a number of 64 bits is 0 where its bits are.
+use native.Mathlib.Omega.{arith}
+use lib.IntN.{pos}
+use Rattle.geom.proofs.Bits.{eqb-bits}
+use Rattle.checks.proofs.zero.Statement.{statement}
+use Rattle.checks.proofs.zero.Tie as tie
+
+returns : tie.Need-returns
+returns c = eqb-bits (c .args .z) (pos 0) (c .fits .z) (record { sfits = omega arith })
+
+pub zero-spec : {M : Type 1} → statement M
+zero-spec = tie.close (tie.spec returns)
