@@ -16,7 +16,7 @@ use Rattle.geom.specs.Rows.{segments}
 use Rattle.build.specs.declared.scan.Entry.{Entry}
 use Rattle.build.specs.Masks.{live, below, bottom, top, maskOf, byteOf}
 use Rattle.build.specs.Live.{live-below}
-use Rattle.build.specs.Scan.{segmentAt, entryOf, entriesFrom, named, liveAt, amount, sumOf, sumsOf, maskBy, byteBy, NodeEnd}
+use Rattle.build.specs.Scan.{segmentAt, entryOf, entriesFrom, named, liveAt, amount, sumOf, sumsOf, sideBy, maskBy, byteBy, NodeEnd}
 use Rattle.build.proofs.Entries.{keep-append, keep-none, keep-keep, length-keep-map, entries-append, all-entries, by-entries}
 use Rattle.build.proofs.Order.{Upto, here, before-upto, strictly, not-yet, still, Sorted}
 
@@ -47,9 +47,13 @@ module _ (work : List ℤ) (n : ℕ) where
       ∙ sym (sum-map (λ t. count k t *ℤ ind (below t e)) (named work) E)
       ∙ ap (Over (count k) (λ t. below t e)) (sym (by-entries work 0 n))
 
+  mask-is : (fill : ℕ) (e : Segment) → maskBy fill (sumsOf work e (keep (liveAt work (e .a)) E)) e ≡ maskOf fill L e
+  unfolding maskBy sideBy maskOf top
+  mask-is fill e = rw (sum-is subject e, sum-is clip e) (omega arith)
+
   pub byte-is : (fill rule : ℕ) (e : Segment) → byteBy fill rule (sumsOf work e (keep (liveAt work (e .a)) E)) e ≡ byteOf fill rule L e
-  unfolding byteBy maskBy byteOf maskOf top
-  byte-is fill rule e = rw (sum-is subject e, sum-is clip e)
+  unfolding byteBy byteOf
+  byte-is fill rule e = rw (mask-is fill e)
 
   -- ---- a list in order
 

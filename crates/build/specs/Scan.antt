@@ -92,12 +92,12 @@ sumsOf work e l = record { subject = sumOf subject work e l; clip = sumOf clip w
 
 -- ---- the byte of an edge by the sums at its bottom
 
+-- the bits of one side, from the sum at the bottom and the edge's own count: 1 for the top, 2 for the bottom
+unfoldable pub sideBy : ℕ → ℤ → ℤ → ℕ
+sideBy fill bottom own = flag (inside fill (bottom +ℤ own)) + 2 * flag (inside fill bottom)
+
 unfoldable pub maskBy : ℕ → Sums → Segment → ℕ
-maskBy fill s e =
-    flag (inside fill (s .subject +ℤ e .subject .0))
-    + 2 * flag (inside fill (s .subject))
-    + 4 * flag (inside fill (s .clip +ℤ e .clip .0))
-    + 8 * flag (inside fill (s .clip))
+maskBy fill s e = sideBy fill (s .subject) (e .subject .0) + 4 * sideBy fill (s .clip) (e .clip .0)
 
 unfoldable pub byteBy : ℕ → ℕ → Sums → Segment → ℕ
 byteBy fill rule s e = let m = maskBy fill s e in m + 16 * flag (kept rule m)

@@ -9,8 +9,9 @@ ghost use Rattle.whole.specs.Kind.{rowsFrom};
 ghost use Rattle.whole.specs.Sum.{All};
 ghost use Rattle.geom.specs.Plane.{GridSegment};
 ghost use Rattle.build.specs.Masks.{flag};
-ghost use Rattle.build.specs.Scan.{entries, EntryOf, OnGrids, addIf, sumsOf, maskBy, byteBy};
+ghost use Rattle.build.specs.Scan.{entries, EntryOf, OnGrids, addIf, sumsOf, sideBy, maskBy, byteBy};
 use crate::scan::Entry;
+use geom::Count;
 use geom::Segment;
 
 pub struct Sums {
@@ -70,6 +71,18 @@ fn bit_if(hit: bool, value: u8) -> u8
     0
 }
 
+// The two bits of one side: 1 where it is inside on top, 2 at the bottom.
+fn side_bits(fill: u32, bottom: i64, count: Count) -> u8
+    requires { ⌜ SFits w64 (bottom +ℤ count .0) ⌝ }
+    ensures { λ r. ⌜ r ≡ sideBy fill bottom (count .0) ⌝ }
+    ensures { λ r. ⌜ r < 4 ⌝ }
+{
+    let top = plus(bottom, geom::wide(count.0));
+    let a = bit_if(crate::inside::inside(fill, top), 1);
+    let b = bit_if(crate::inside::inside(fill, bottom), 2);
+    a + b
+}
+
 // The mask of e, with these sums at its bottom.
 fn mask(fill: u32, s: Sums, e: Segment) -> u8
     requires { ⌜ SFits w64 (s .subject +ℤ e .subject .0) ⌝ }
@@ -77,13 +90,9 @@ fn mask(fill: u32, s: Sums, e: Segment) -> u8
     ensures { λ r. ⌜ r ≡ maskBy fill s e ⌝ }
     ensures { λ r. ⌜ r < 16 ⌝ }
 {
-    let subject = plus(s.subject, geom::wide(e.subject.0));
-    let clip = plus(s.clip, geom::wide(e.clip.0));
-    let a = bit_if(crate::inside::inside(fill, subject), 1);
-    let b = bit_if(crate::inside::inside(fill, s.subject), 2);
-    let c = bit_if(crate::inside::inside(fill, clip), 4);
-    let d = bit_if(crate::inside::inside(fill, s.clip), 8);
-    a + b + c + d
+    let subject = side_bits(fill, s.subject, e.subject);
+    let clip = side_bits(fill, s.clip, e.clip);
+    subject + 4 * clip
 }
 
 // A kept edge's byte has 16 added.
