@@ -12,7 +12,8 @@ use Rattle.geom.specs.declared.Segment.{Segment}
 use Rattle.geom.specs.Plane.{GridSegment, gridSegment, samePoint}
 use Rattle.geom.specs.Rows.{segments}
 use Rattle.geom.specs.Tests.{when-true, gridSegment?}
-use Rattle.split.specs.Faults.{some, isOff, isPoint, firstFault}
+use Rattle.checks.specs.Checks.{some, isOff, isPoint}
+use Rattle.split.specs.Faults.{firstFault}
 
 module _ (k : ℕ) (v : Segment) (L : List Segment) where
   pub fault-off : gridSegment v ≡ false → firstFault k (v ∷ L) ≡ 3

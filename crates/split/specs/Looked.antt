@@ -11,7 +11,7 @@ use Rattle.geom.specs.Rows.{segments}
 use Rattle.split.specs.declared.answer.Looked.{Looked}
 use Rattle.split.specs.declared.answer.Looked.the-variants.{Marks, Short, OffGrid, NoLength, MarksFull}
 use Rattle.split.specs.declared.answer.Mark.{Mark}
-use Rattle.split.specs.Faults.{some, isOff, isPoint}
+use Rattle.checks.specs.Checks.{some, isOff, isPoint}
 use Rattle.split.specs.Marks.{marks}
 use Rattle.split.specs.Look.{look}
 

@@ -9,7 +9,7 @@ use lib.Dec.{ltb}
 use lib.ListN.{length}
 use Rattle.whole.specs.Kind.{rowsFrom}
 use Rattle.geom.specs.Rows.{segments}
-use Rattle.split.specs.Faults.{some, isOff, isPoint}
+use Rattle.checks.specs.Checks.{some, isOff, isPoint}
 use Rattle.split.specs.Looked.{lookAnswer, lookList}
 use Rattle.split.proofs.Faulty.{told-off, told-point, told-clean}
 use Rattle.split.proofs.look.look.Statement.{statement}
