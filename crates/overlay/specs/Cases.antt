@@ -17,8 +17,8 @@ use Rattle.geom.specs.Plane.{point, segment, onGrid, gridPoint, gridSegment, be
 use Rattle.segm.specs.Forward.{forward}
 use Rattle.segm.specs.Merge.{sameEnds, plus, groupsFrom, groups, isEmpty, mergedFrom, merged, pairedFrom, paired, isFar, anyFar}
 use Rattle.segm.specs.Balance.{balancedAt, balancedOver, closed}
-use Rattle.split.specs.declared.answer.Kind.the-variants.{Pure, TargetEnd}
-use Rattle.split.specs.Cross.{found, inner, collinearMask, level, nearest, quotient, crossPoint, onBoth, far, nearer, reach, snapped, middle, crossBy, crossing}
+use Rattle.cross.specs.declared.answer.Kind.the-variants.{Pure, TargetEnd}
+use Rattle.cross.specs.Cross.{found, inner, collinearMask, level, nearest, quotient, crossPoint, onBoth, far, nearer, reach, snapped, middle, crossBy, crossing}
 use Rattle.split.specs.Look.{one, lineMarks, kindMarks, crossMarks, marksWith, lookFrom, sameMark, tidy}
 use Rattle.split.specs.Chain.{pointsOf, addTo, columns, nextY, lastOf, chainFrom, chain, piecesFrom, splitFrom}
 use Rattle.build.specs.Inside.{inside}

@@ -10,7 +10,7 @@ use lib.ListN.{length}
 use Rattle.whole.specs.Append.{Added}
 use Rattle.geom.specs.declared.Segment.{Segment}
 use Rattle.split.specs.declared.answer.Mark.{Mark}
-use Rattle.split.specs.Cross.{bit, inner, collinearMask}
+use Rattle.cross.specs.Cross.{bit, inner, collinearMask}
 use Rattle.split.specs.Marks.{marks}
 use Rattle.split.specs.Look.{one}
 

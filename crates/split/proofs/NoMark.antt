@@ -5,10 +5,10 @@ use Prim.Native.Nat.{ℕ}
 use denote.Enum.Declared.{tagOf}
 use types.Run.{OneOf, miss}
 use Rattle.geom.specs.declared.Segment.{Segment}
-use Rattle.split.specs.declared.answer.Crossing.{Crossing}
-use Rattle.split.specs.declared.answer.Crossing.the-variants.{Found, Nothing, OffGrid, NoLength}
+use Rattle.cross.specs.declared.answer.Crossing.{Crossing}
+use Rattle.cross.specs.declared.answer.Crossing.the-variants.{Found, Nothing, OffGrid, NoLength}
 use Rattle.split.specs.Look.{crossMarks}
-use Rattle.split.proofs.answer.Crossing.{the-type}
+use Rattle.cross.proofs.answer.Crossing.{the-type}
 
 pub no-marks : (i j : ℕ) (t o : Segment) (x : Crossing) → OneOf (1 ∷ 2 ∷ 3 ∷ []) (tagOf the-type x) → crossMarks i j t o x ≡ []
 unfolding crossMarks

@@ -1,11 +1,4 @@
--- In reading order: how two segments cross; a middle crossing, what the sides say, its point in both boxes, its sizes; what comes of a pair; the marks of a look,
--- none of them at an end, and none exactly if apart, for a pair and for a whole look; what a look answers; marks tidied; splitting.
-pub mod Cross
-pub mod Middle
-pub mod Sides
-pub mod Boxes
-pub mod Sizes
-pub mod Outcome
+-- In reading order: the marks of a look, none of them at an end, and none exactly if apart; what a look answers; marks tidied; splitting.
 pub mod Marks
 pub mod Look
 pub mod NoEnd

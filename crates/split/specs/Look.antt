@@ -10,13 +10,13 @@ use Rattle.whole.specs.Distinct.{distinct}
 use Rattle.geom.specs.declared.Point.{Point}
 use Rattle.geom.specs.declared.Segment.{Segment}
 use Rattle.geom.specs.Plane.{sameZ, samePoint}
-use Rattle.split.specs.declared.answer.Kind.{Kind}
-use Rattle.split.specs.declared.answer.Kind.the-variants.{Pure, TargetEnd, OtherEnd, Overlay}
-use Rattle.split.specs.declared.answer.Crossing.{Crossing}
-use Rattle.split.specs.declared.answer.Crossing.the-variants.{Found, Nothing, OffGrid, NoLength}
+use Rattle.cross.specs.declared.answer.Kind.{Kind}
+use Rattle.cross.specs.declared.answer.Kind.the-variants.{Pure, TargetEnd, OtherEnd, Overlay}
+use Rattle.cross.specs.declared.answer.Crossing.{Crossing}
+use Rattle.cross.specs.declared.answer.Crossing.the-variants.{Found, Nothing, OffGrid, NoLength}
 use Rattle.split.specs.declared.answer.Mark.{Mark}
 use Rattle.split.specs.Marks.{numbers}
-use Rattle.split.specs.Cross.{inner, crossing}
+use Rattle.cross.specs.Cross.{inner, crossing}
 
 abbrev pub mark : ℕ → Point → Mark
 mark i p = record { segment = pos i; point = p }

@@ -14,12 +14,12 @@ use Rattle.geom.specs.Order.{before-irr}
 use Rattle.geom.specs.Tests.{when-true, between?}
 use Rattle.plane.specs.Meeting.{Meeting}
 use Rattle.plane.specs.NoEnd.{NoEnd, NoZero, parted-no-zero}
-use Rattle.split.specs.declared.answer.Crossing.{Crossing}
+use Rattle.cross.specs.declared.answer.Crossing.{Crossing}
 use Rattle.split.specs.declared.answer.Mark.{Mark}
-use Rattle.split.specs.Cross.{inner, far, nearer}
-use Rattle.split.specs.Middle.{Middle}
+use Rattle.cross.specs.Cross.{inner, far, nearer}
+use Rattle.cross.specs.Middle.{Middle}
 use Rattle.split.specs.Look.{mark, one, lineMarks, kindMarks, crossMarks, pairMarks}
-use Rattle.split.specs.Outcome.{Place, t-a, t-b, o-a, o-b, place-on-grid, Marked, both, on-other, on-target, Outcome, overlaid, nothing, marked, outcome}
+use Rattle.cross.specs.Outcome.{Place, t-a, t-b, o-a, o-b, place-on-grid, Marked, both, on-other, on-target, Outcome, overlaid, nothing, marked, outcome}
 
 -- of segment i, which is t, or of segment j, which is o
 pub data MarkOf (i j : ℕ) (t o : Segment) : Mark → Type 0 where

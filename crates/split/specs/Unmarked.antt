@@ -14,11 +14,11 @@ use Rattle.plane.specs.Apart.{Apart}
 use Rattle.plane.specs.Meeting.{Meeting, touching, crossing as through}
 use Rattle.plane.specs.Pierce.{Different}
 use Rattle.plane.specs.Unmarked.{inside, someInside, noMark, unmarked, unmarked?}
-use Rattle.split.specs.declared.answer.Crossing.{Crossing}
+use Rattle.cross.specs.declared.answer.Crossing.{Crossing}
 use Rattle.split.specs.declared.answer.Mark.{Mark}
-use Rattle.split.specs.Cross.{inner}
+use Rattle.cross.specs.Cross.{inner}
 use Rattle.split.specs.Look.{mark, one, lineMarks, kindMarks, crossMarks, pairMarks}
-use Rattle.split.specs.Outcome.{Marked, both, on-other, on-target, Outcome, overlaid, nothing, marked, outcome}
+use Rattle.cross.specs.Outcome.{Marked, both, on-other, on-target, Outcome, overlaid, nothing, marked, outcome}
 
 -- the test says whether there is no mark
 data NoMark : List Mark → Bool → Type 0 where

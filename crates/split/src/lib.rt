@@ -1,7 +1,5 @@
-// Where segments cross (split/cross_solver.rs), the look over every pair, and splitting at the marks (split/solver.rs).
+// The look over every pair, and its marks in order (split/solver.rs).
 pub mod answer;
-pub mod cross;
 pub mod look;
 mod mark;
-mod point;
 pub mod tidy;

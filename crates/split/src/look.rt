@@ -14,12 +14,11 @@ ghost use Rattle.split.specs.Faults.{firstFault};
 ghost use Rattle.split.specs.Marks.{marks as markRows};
 ghost use Rattle.split.specs.Look.{mark as markAt, one, lineMarks, pairMarks, look as marksOf};
 ghost use Rattle.split.specs.Looked.{counted, lookAnswer, lookList};
-use crate::answer::Crossing;
-use crate::answer::Kind;
 use crate::answer::Looked;
 use crate::answer::Mark;
-use crate::cross;
 use crate::mark;
+use cross::answer::Crossing;
+use cross::answer::Kind;
 use geom::Point;
 use geom::Segment;
 

@@ -1,0 +1,7 @@
+-- In reading order: how two segments cross; a middle crossing, what the sides say, its point in both boxes, its sizes; what comes of a pair.
+pub mod Cross
+pub mod Middle
+pub mod Sides
+pub mod Boxes
+pub mod Sizes
+pub mod Outcome

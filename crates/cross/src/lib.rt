@@ -1,0 +1,214 @@
+// How two segments cross: by the four signs, and in the middle by the rounded point.
+ghost use mathlib.Core.Path.{_≡_};
+ghost use mathlib.Core.Bool.{_&&_};
+ghost use Prim.Native.Nat.{_*_, _<_};
+ghost use Rattle.geom.specs.Plane.{GridPoint, GridSegment, gridSegment};
+ghost use Rattle.cross.specs.Cross.{found as foundAt, inner as isInner, bit, collinearMask, onLine, onBoth, snapped as snappedBy, middle as middleBy, crossPoint, crossBy, crossing as crossingOf, hasLength, crossAny};
+ghost use Rattle.cross.specs.Middle.{Middle, Sides, taken as takenBy};
+
+pub mod answer;
+mod point;
+
+use answer::Cross;
+use answer::Crossing;
+use answer::Kind;
+use geom::Coord;
+use geom::Point;
+use geom::Segment;
+use point::End;
+
+// p strictly between the ends of v, whichever comes first.
+fn inner(v: Segment, p: Point) -> bool
+    ensures { λ r. ⌜ r ≡ isInner v p ⌝ }
+{
+    if geom::between(v.a, p, v.b) {
+        return true;
+    }
+    geom::between(v.b, p, v.a)
+}
+
+fn bit_if(hit: bool, value: u8) -> u8
+    requires { ⌜ value < 16 ⌝ }
+    ensures { λ r. ⌜ r ≡ value * bit hit ⌝ }
+{
+    if hit {
+        return value;
+    }
+    0
+}
+
+// Which ends lie strictly between the other's ends: target a 1, target b 2, other a 4, other b 8.
+pub fn collinear(target: Segment, other: Segment) -> u8
+    ensures { λ r. ⌜ r ≡ collinearMask target other ⌝ }
+{
+    let a = bit_if(inner(other, target.a), 1);
+    let b = bit_if(inner(other, target.b), 2);
+    let c = bit_if(inner(target, other.a), 4);
+    let d = bit_if(inner(target, other.b), 8);
+    a + b + c + d
+}
+
+fn found(p: Point, kind: Kind, rounded: bool) -> Crossing
+    ensures { λ r. ⌜ r ≡ foundAt p kind rounded ⌝ }
+{
+    Crossing::Found(Cross {
+        point: p,
+        kind,
+        rounded,
+    })
+}
+
+fn on_line(v: Segment, p: Point) -> bool
+    requires { ⌜ GridSegment v ⌝ }
+    requires { ⌜ GridPoint p ⌝ }
+    ensures { λ r. ⌜ r ≡ onLine v p ⌝ }
+{
+    geom::side(v.a, v.b, p) == 1
+}
+
+// The end e, if p is within the radius of it.
+fn taken(e: End, kind: Kind, p: Point, radius: u64) -> Crossing
+    ensures { λ r. ⌜ r ≡ takenBy radius e kind p ⌝ }
+{
+    if e.far <= radius {
+        return found(e.point, kind, true);
+    }
+    found(p, Kind::Pure, true)
+}
+
+// The nearest of the four ends is target's on a tie.
+fn snapped(target: Segment, other: Segment, p: Point, radius: u64) -> Crossing
+    requires { ⌜ GridSegment target ⌝ }
+    requires { ⌜ GridSegment other ⌝ }
+    requires { ⌜ GridPoint p ⌝ }
+    ensures { λ r. ⌜ r ≡ snappedBy radius target other p ⌝ }
+{
+    let e = point::nearer(target, p);
+    let f = point::nearer(other, p);
+    if e.far <= f.far {
+        return taken(e, Kind::TargetEnd, p, radius);
+    }
+    taken(f, Kind::OtherEnd, p, radius)
+}
+
+fn on_both(target: Segment, other: Segment, p: Point) -> bool
+    requires { ⌜ GridSegment target ⌝ }
+    requires { ⌜ GridSegment other ⌝ }
+    requires { ⌜ GridPoint p ⌝ }
+    ensures { λ r. ⌜ r ≡ onBoth target other p ⌝ }
+{
+    if on_line(target, p) {
+        return on_line(other, p);
+    }
+    false
+}
+
+// A middle crossing.
+fn middle(target: Segment, other: Segment, radius: u64) -> Crossing
+    requires { ⌜ GridSegment target ⌝ }
+    requires { ⌜ GridSegment other ⌝ }
+    requires { ⌜ Middle target other ⌝ }
+    ensures { λ r. ⌜ r ≡ middleBy radius target other (crossPoint target other) ⌝ }
+{
+    let p = point::cross_point(target, other);
+    if on_both(target, other, p) {
+        return found(p, Kind::Pure, false);
+    }
+    snapped(target, other, p, radius)
+}
+
+// What two segments make of their four sides.
+fn by_sides(
+    target: Segment,
+    other: Segment,
+    s1: u8,
+    s2: u8,
+    s3: u8,
+    s4: u8,
+    radius: u64,
+) -> Crossing
+    requires { ⌜ GridSegment target ⌝ }
+    requires { ⌜ GridSegment other ⌝ }
+    requires { ⌜ Sides target other s1 s2 s3 s4 ⌝ }
+    ensures { λ r. ⌜ r ≡ crossBy radius target other s1 s2 s3 s4 ⌝ }
+{
+    let zeros = s1 % 2 + s2 % 2 + s3 % 2 + s4 % 2;
+    if zeros == 4 {
+        let origin = Point {
+            x: Coord(0),
+            y: Coord(0),
+        };
+        return found(origin, Kind::Overlay, false);
+    }
+    if 1 < zeros {
+        return Crossing::Nothing;
+    }
+    if s1 == s2 {
+        return Crossing::Nothing;
+    }
+    if s3 == s4 {
+        return Crossing::Nothing;
+    }
+    if s1 == 1 {
+        return found(other.a, Kind::OtherEnd, false);
+    }
+    if s2 == 1 {
+        return found(other.b, Kind::OtherEnd, false);
+    }
+    if s3 == 1 {
+        return found(target.a, Kind::TargetEnd, false);
+    }
+    if s4 == 1 {
+        return found(target.b, Kind::TargetEnd, false);
+    }
+    middle(target, other, radius)
+}
+
+// Of segments on the grid. Most pairs go no further than other's two ends on one side of target's line.
+pub fn crossing(target: Segment, other: Segment, radius: u64) -> Crossing
+    requires { ⌜ GridSegment target ⌝ }
+    requires { ⌜ GridSegment other ⌝ }
+    ensures { λ r. ⌜ r ≡ crossingOf radius target other ⌝ }
+{
+    let s1 = geom::side(target.a, target.b, other.a);
+    let s2 = geom::side(target.a, target.b, other.b);
+    if s1 == s2 {
+        if s1 % 2 == 0 {
+            return Crossing::Nothing;
+        }
+    }
+    let s3 = geom::side(other.a, other.b, target.a);
+    let s4 = geom::side(other.a, other.b, target.b);
+    by_sides(target, other, s1, s2, s3, s4, radius)
+}
+
+fn both_on_grid(target: Segment, other: Segment) -> bool
+    ensures { λ r. ⌜ r ≡ gridSegment target && gridSegment other ⌝ }
+{
+    if geom::segment_on_grid(target) {
+        return geom::segment_on_grid(other);
+    }
+    false
+}
+
+fn both_have_length(target: Segment, other: Segment) -> bool
+    ensures { λ r. ⌜ r ≡ hasLength target && hasLength other ⌝ }
+{
+    if geom::same_point(target.a, target.b) {
+        return false;
+    }
+    !geom::same_point(other.a, other.b)
+}
+
+// Of any two segments. `radius` is squared.
+pub fn cross(target: Segment, other: Segment, radius: u64) -> Crossing
+    ensures { λ r. ⌜ r ≡ crossAny radius target other ⌝ }
+{
+    if both_on_grid(target, other) {
+        if both_have_length(target, other) {
+            return crossing(target, other, radius);
+        }
+        return Crossing::NoLength;
+    }
+    Crossing::OffGrid
+}
