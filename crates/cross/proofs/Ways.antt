@@ -13,13 +13,13 @@ use Rattle.whole.specs.Ring.{ring, reads}
 use Rattle.geom.specs.declared.Segment.{Segment}
 use Rattle.geom.specs.Plane.{GridSegment, point, upright}
 use Rattle.geom.specs.Tests.{Decides, holds, fails, same?, upright?}
-use Rattle.plane.specs.Apart.{o₁, o₂}
+use Rattle.plane.specs.Apart.{o₁}
 use Rattle.plane.specs.Quotients.{nearest, cut-reduced}
 use Rattle.plane.specs.Crossing.{upright-div, level-div}
 use Rattle.cross.specs.Cross.{level, crossPoint}
 use Rattle.cross.specs.Middle.{Middle, Cut, Share}
 use Rattle.cross.specs.Boxes.{by-cut, by-nearest, parted-some}
-use Rattle.cross.specs.Sizes.{width, height, share-near, divisor-near, width-near, height-near}
+use Rattle.cross.specs.Sizes.{divisor, width, height, share-near, divisor-near, width-near, height-near}
 use Rattle.cross.proofs.Steps.{parted-same, parted-less}
 
 -- ---- offsets
@@ -62,13 +62,13 @@ is-level t e = rw (holds (level? t) e) (either (upright t))
 -- ---- the point
 
 module _ {t o : Segment} (gt : GridSegment t) (go : GridSegment o) (m : Middle t o) where
-  some : o₁ o t -ℤ o₂ o t ≢ pos 0
+  some : divisor t o ≢ pos 0
   some = parted-some (m .target)
 
-  pub share-x : Share (o₁ o t) (o₁ o t -ℤ o₂ o t) (width t)
+  pub share-x : Share (o₁ o t) (divisor t o) (width t)
   share-x = record { same = parted-same (m .target); less = parted-less (m .target); d-small = divisor-near gt go; a-small = width-near gt go }
 
-  pub share-y : Share (o₁ o t) (o₁ o t -ℤ o₂ o t) (height t)
+  pub share-y : Share (o₁ o t) (divisor t o) (height t)
   share-y = record { same = parted-same (m .target); less = parted-less (m .target); d-small = divisor-near gt go; a-small = height-near gt go }
 
   pub upright-cut : t .a .x .0 ≡ t .b .x .0 → Cut (o₁ o t) (o .a .x .0 -ℤ o .b .x .0)
@@ -83,8 +83,8 @@ module _ {t o : Segment} (gt : GridSegment t) (go : GridSegment o) (m : Middle t
       let k = o .a .x .0 -ℤ o .b .x .0 in
       let d = upright-div t o e in
       let c : (upright t || level t) ≡ true = rw (holds (upright? t) e) in
-      rw (by-cut t (o₁ o t *ℤ width t) (o₁ o t -ℤ o₂ o t) c, by-cut t (o₁ o t *ℤ height t) (o₁ o t -ℤ o₂ o t) c)
-      (ap₂ point (none-offset (o₁ o t) (t .a .x .0) (t .b .x .0) (o₁ o t -ℤ o₂ o t) e)
+      rw (by-cut t (o₁ o t *ℤ width t) (divisor t o) c, by-cut t (o₁ o t *ℤ height t) (divisor t o) c)
+      (ap₂ point (none-offset (o₁ o t) (t .a .x .0) (t .b .x .0) (divisor t o) e)
       (ap (λ z. t .a .y .0 +ℤ z) (rw (← d) (cut-offset (o₁ o t) (height t) k (rw d some)))))
 
   pub level-point : t .a .y .0 ≡ t .b .y .0 → crossPoint t o ≡ point (t .a .x .0 +ℤ quotZ (o₁ o t) (o .b .y .0 -ℤ o .a .y .0)) (t .a .y .0)
@@ -93,13 +93,13 @@ module _ {t o : Segment} (gt : GridSegment t) (go : GridSegment o) (m : Middle t
       let k = o .b .y .0 -ℤ o .a .y .0 in
       let d = level-div t o e in
       let c : (upright t || level t) ≡ true = is-level t e in
-      rw (by-cut t (o₁ o t *ℤ width t) (o₁ o t -ℤ o₂ o t) c, by-cut t (o₁ o t *ℤ height t) (o₁ o t -ℤ o₂ o t) c)
+      rw (by-cut t (o₁ o t *ℤ width t) (divisor t o) c, by-cut t (o₁ o t *ℤ height t) (divisor t o) c)
       (ap₂ point (ap (λ z. t .a .x .0 +ℤ z) (rw (← d) (cut-offset (o₁ o t) (width t) k (rw d some))))
-      (none-offset (o₁ o t) (t .a .y .0) (t .b .y .0) (o₁ o t -ℤ o₂ o t) e))
+      (none-offset (o₁ o t) (t .a .y .0) (t .b .y .0) (divisor t o) e))
 
   pub slope-point : t .a .x .0 ≢ t .b .x .0 → t .a .y .0 ≢ t .b .y .0
-      → crossPoint t o ≡ point (t .a .x .0 +ℤ nearest (o₁ o t *ℤ width t) (o₁ o t -ℤ o₂ o t)) (t .a .y .0 +ℤ nearest (o₁ o t *ℤ height t) (o₁ o t -ℤ o₂ o t))
+      → crossPoint t o ≡ point (t .a .x .0 +ℤ nearest (o₁ o t *ℤ width t) (divisor t o)) (t .a .y .0 +ℤ nearest (o₁ o t *ℤ height t) (divisor t o))
   unfolding crossPoint
   slope-point h k =
       let c : (upright t || level t) ≡ false = rw (fails (upright? t) h, fails (level? t) k) in
-      rw (by-nearest t (o₁ o t *ℤ width t) (o₁ o t -ℤ o₂ o t) c, by-nearest t (o₁ o t *ℤ height t) (o₁ o t -ℤ o₂ o t) c)
+      rw (by-nearest t (o₁ o t *ℤ width t) (divisor t o) c, by-nearest t (o₁ o t *ℤ height t) (divisor t o) c)

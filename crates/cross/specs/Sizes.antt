@@ -21,8 +21,11 @@ width t = t .b .x .0 -ℤ t .a .x .0
 abbrev pub height : Segment → ℤ
 height t = t .b .y .0 -ℤ t .a .y .0
 
--- the divisor is a difference of two areas, as a turn is
-divisor-is : (t o : Segment) → o₁ o t -ℤ o₂ o t ≡ height t *ℤ (o .a .x .0 -ℤ o .b .x .0) -ℤ width t *ℤ (o .a .y .0 -ℤ o .b .y .0)
+-- what the offsets are divided by: a difference of two areas, as a turn is
+abbrev pub divisor : Segment → Segment → ℤ
+divisor t o = o₁ o t -ℤ o₂ o t
+
+divisor-is : (t o : Segment) → divisor t o ≡ height t *ℤ (o .a .x .0 -ℤ o .b .x .0) -ℤ width t *ℤ (o .a .y .0 -ℤ o .b .y .0)
 unfolding turn
 divisor-is t o = ring (coords t o) (search reads depth 20 fits 5000) tt
 
@@ -30,7 +33,7 @@ module _ {t o : Segment} (gt : GridSegment t) (go : GridSegment o) where
   pub share-near : natAbs (o₁ o t) < 2 ^ 63
   share-near = turn-near (go .a) (go .b) (gt .a)
 
-  pub divisor-near : natAbs (o₁ o t -ℤ o₂ o t) < 2 ^ 63
+  pub divisor-near : natAbs (divisor t o) < 2 ^ 63
   divisor-near =
       rw (divisor-is t o)
       (omega (arith, abs-sub (height t *ℤ (o .a .x .0 -ℤ o .b .x .0)) (width t *ℤ (o .a .y .0 -ℤ o .b .y .0)), area-near (gt .b .y) (gt .a .y) (go .a .x) (go .b .x), area-near (gt .b .x) (gt .a .x) (go .a .y) (go .b .y)))
@@ -45,7 +48,7 @@ module _ {t o : Segment} (gt : GridSegment t) (go : GridSegment o) where
   pub products-near : (natAbs (o₁ o t *ℤ width t) < 2 ^ 94) × (natAbs (o₁ o t *ℤ height t) < 2 ^ 94)
   products-near = (abs-mul-lt (o₁ o t) (width t) share-near width-near, abs-mul-lt (o₁ o t) (height t) share-near height-near)
 
--- a squared distance is at most 2 (2^31 - 1)^2
+-- a squared distance is at most 2 (2^31 - 1)²
 pub square-near : (n : ℕ) → n < 2 ^ 31 → n * n ≤ 4611686014132420609
 square-near n h = mul-le-mul {n₂ = 2147483647} {m₂ = 2147483647} (omega arith) (omega arith)
 

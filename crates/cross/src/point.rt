@@ -48,7 +48,7 @@ fn cut(n: i64, d: i64) -> i64
     n / d
 }
 
-// n * a / d to nearest, where n / d is between 0 and 1. The product needs two words.
+// n * a / d to nearest, where n / d is between 0 and 1. The product needs two words; the quotient is no larger than a, so that there always is one.
 fn share(n: i64, d: i64, a: i64) -> i64
     requires { ⌜ Share n d a ⌝ }
     ensures { λ r. ⌜ r ≡ nearest (n *ℤ a) d ⌝ }

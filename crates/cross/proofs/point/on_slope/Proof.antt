@@ -14,7 +14,7 @@ use Rattle.plane.specs.Apart.{o₁, o₂}
 use Rattle.plane.specs.Quotients.{nearest}
 use Rattle.cross.specs.Cross.{crossPoint}
 use Rattle.cross.specs.Boxes.{middle-on-grid}
-use Rattle.cross.specs.Sizes.{width, height, divisor-near}
+use Rattle.cross.specs.Sizes.{divisor, width, height, divisor-near}
 use Rattle.cross.proofs.Ways.{share-x, share-y, slope-point}
 use Rattle.cross.proofs.point.on_slope.Statement.{statement}
 use Rattle.cross.proofs.point.on_slope.Tie as tie
@@ -27,9 +27,6 @@ turn-requires-2 c κs = search needs
 
 n-held : (c : tie.After-turn) → let s = c .before .args in toZ w64 (ofZ w64 (c .turn .result)) ≡ o₁ (s .other) (s .target)
 n-held c = toZ-ofZ (sfits-of (c .turn .ok)) ∙ c .turn .ensures
-
-abbrev divisor : Segment → Segment → ℤ
-divisor t o = o₁ o t -ℤ o₂ o t
 
 difference : (c : tie.After-turn2) → let s = c .before .before .args in toZ w64 (ofZ w64 (c .before .turn .result)) -ℤ toZ w64 (ofZ w64 (c .turn2 .result)) ≡ divisor (s .target) (s .other)
 difference c =
