@@ -11,11 +11,12 @@ use lib.ListN.{length, take, length-map}
 use lib.Seq.{take-append-seam}
 use Rattle.whole.specs.Kind.{rowsFrom}
 use Rattle.whole.specs.KindLaws.{rows-front}
-use Rattle.whole.specs.Sum.{All, none, also}
+use Rattle.whole.specs.Sum.{All, none, also, all-map, all-both}
 use Rattle.geom.specs.declared.Segment.{Segment}
 use Rattle.geom.specs.Limits.{workRoom, markRoom, scanRoom}
+use Rattle.geom.specs.Plane.{gridSegment}
 use Rattle.geom.specs.Rows.{segments}
-use Rattle.geom.specs.Tests.{samePoint?, when-false}
+use Rattle.geom.specs.Tests.{samePoint?, gridSegment?, when-true, when-false}
 use Rattle.segm.specs.MergeLaws.{neither}
 use Rattle.segm.specs.Forward.{forward, sorted}
 use Rattle.segm.specs.Merge.{merged, tooBig}
@@ -32,7 +33,7 @@ use Rattle.overlay.specs.Numbers.{told}
 use Rattle.overlay.specs.Looks.{Ran, settled, refused, radius, joined, lookAt, looksFrom, ran}
 use Rattle.overlay.specs.Outcome.{Lent, Outcome, zeros, cleared, finished, swept, unless, outcome}
 use Rattle.demands.specs.Chain.{cut, Chain, run-chain}
-use Rattle.demands.specs.Ordered.{HasLength}
+use Rattle.demands.specs.Ordered.{Fit}
 
 -- the segments of the input
 abbrev pub given : List ℤ → Settings → List Segment
@@ -43,16 +44,24 @@ abbrev pub edges : Outcome → ℕ → List Segment
 edges o m = rowsFrom segments (o .lists .work) 0 m
 
 pub record Answered (input : List ℤ) (s : Settings) (o : Outcome) (m looks : ℕ) : Type 0 where
-  pub lengths : All HasLength (given input s)
+  pub fit : All Fit (given input s)
   pub even : closed (given input s) ≡ true
   pub chain : Chain (given input s) (edges o m) looks
-  pub number : length (edges o m) ≡ m
   pub bytes : take m (o .lists .masks) ≡ bytes (s .fill) (s .rule) (edges o m)
 
-lengths-of : (L : List Segment) → some isPoint L ≡ false → All HasLength L
+no-fault : (fault : Segment → Bool) (L : List Segment) → some fault L ≡ false → All (λ v. fault v ≡ false) L
 unfolding some
-lengths-of [] e = none
-lengths-of (v ∷ L) e = let n = neither (isPoint v) (some isPoint L) e in also (when-false (samePoint? (v .a) (v .b)) (n .0)) (lengths-of L (n .1))
+no-fault fault [] e = none
+no-fault fault (v ∷ L) e = let n = neither (fault v) (some fault L) e in also (n .0) (no-fault fault L (n .1))
+
+turned-true : (b : Bool) → not b ≡ false → b ≡ true
+turned-true true h = refl
+turned-true false h = sym h
+
+fit-of : (L : List Segment) → some isOff L ≡ false → some isPoint L ≡ false → All Fit L
+fit-of L p q =
+    all-map (λ v f. (when-true (gridSegment? v) (turned-true (gridSegment v) (f .0)), when-false (samePoint? (v .a) (v .b)) (f .1)))
+    (all-both (no-fault isOff L p) (no-fault isPoint L q))
 
 -- ---- a refusal is not answer 0
 
@@ -117,7 +126,8 @@ passed : (b : Bool) (x r : Fault) → number x ≢ 0 → cond b x r ≡ Sound �
 passed true x r n e = absurd (n (ap number e))
 passed false x r n e = (refl, e)
 
-sound : (input : List ℤ) (s : Settings) (work masks : ℕ) → faultOf input s work masks ≡ Sound → (some isPoint (given input s) ≡ false) × (isOpen (given input s) ≡ false)
+sound : (input : List ℤ) (s : Settings) (work masks : ℕ) → faultOf input s work masks ≡ Sound
+    → (some isOff (given input s) ≡ false) × (some isPoint (given input s) ≡ false) × (isOpen (given input s) ≡ false)
 unfolding faultOf
 sound input s work masks e =
     let p1 = passed (isShort (s .n) (length input) work masks) Short _ (λ z. omega arith) e in
@@ -126,7 +136,7 @@ sound input s work masks e =
     let p4 = passed (some isPoint (given input s)) NoLength _ (λ z. omega arith) (p3 .1) in
     let p5 = passed (some hasLeast (given input s)) BadCount _ (λ z. omega arith) (p4 .1) in
     let p6 = passed (isOpen (given input s)) Open Sound (λ z. omega arith) (p5 .1) in
-    (p4 .0, p6 .0)
+    (p3 .0, p4 .0, p6 .0)
 
 module _ (input : List ℤ) (s : Settings) (l : Lent) (m looks : ℕ) where
   abbrev result : Ran
@@ -142,27 +152,22 @@ module _ (input : List ℤ) (s : Settings) (l : Lent) (m looks : ℕ) where
       let k : m ≡ length (bytes (s .fill) (s .rule) (w .list)) = sym (w .number) ∙ sym (length-map (w .list) (byteOf (s .fill) (s .rule) (w .list))) in
       ap₂ (λ x n. take n (x .lists .masks)) (w .outcome) k ∙ take-append-seam (bytes (s .fill) (s .rule) (w .list)) _
 
-  given-by : (o : Outcome) → some isPoint (given input s) ≡ false → isOpen (given input s) ≡ false → Swept s l result o m looks → Answered input s o m looks
-  given-by o p c w =
+  given-by : (o : Outcome) → All Fit (given input s) → closed (given input s) ≡ true → Swept s l result o m looks → Answered input s o m looks
+  given-by o f c w =
       let e = list-given o w in
       record {
-        lengths = lengths-of (given input s) p;
-        even = not-open (closed (given input s)) c;
+        fit = f;
+        even = c;
         chain = subst (λ K. Chain (given input s) K looks) (sym e) (run-chain _ _ (s .budget) (given input s) (w .list) looks (w .ran));
-        number = ap length e ∙ w .number;
         bytes = bytes-given o w ∙ ap (bytes (s .fill) (s .rule)) (sym e);
       }
-    where
-      not-open : (b : Bool) → not b ≡ false → b ≡ true
-      not-open true h = refl
-      not-open false h = sym h
 
   unless-sound : (f : Fault) → faultOf input s (length (l .work)) (length (l .masks)) ≡ f → unless f l (swept s l result) .answer ≡ Settled m looks
       → Answered input s (unless f l (swept s l result)) m looks
   unfolding unless
   unless-sound Sound p e =
       let h = sound input s (length (l .work)) (length (l .masks)) p in
-      given-by (swept s l result) (h .0) (h .1) (swept-settled s l m looks (ran-proper _ _ (s .budget) (given input s)) e)
+      given-by (swept s l result) (fit-of (given input s) (h .0) (h .1)) (turned-true (closed (given input s)) (h .2)) (swept-settled s l m looks (ran-proper _ _ (s .budget) (given input s)) e)
   unless-sound Short p e = absurd (not-settled (λ z. omega arith) e)
   unless-sound BadSettings p e = absurd (not-settled (λ z. omega arith) e)
   unless-sound OffGrid p e = absurd (not-settled (λ z. omega arith) e)

@@ -1,13 +1,15 @@
 -- In reading order: the chain of lists that a run makes; that each of them is balanced; that each is forward and in order, because marks tidied are different
--- (Distinct), none is an end of the segment it names (Named), and so the points of a chain differ (Once) and the pieces run (Pieces); that the last is
--- settled; what answer 0 says of the outcome, and the bytes.
+-- (Distinct), none is an end of the segment it names (Clear), and so the points of a chain differ (Once) and the pieces run (Pieces); that the last is
+-- settled; what answer 0 says of the outcome, the bytes, and edges by their places. Theorems has the three demands in one place.
 pub mod Chain
 pub mod Even
 pub mod Distinct
-pub mod Named
+pub mod Clear
 pub mod Once
 pub mod Pieces
 pub mod Ordered
 pub mod Settled
 pub mod Answer
 pub mod Bytes
+pub mod Places
+pub mod Theorems

@@ -12,7 +12,7 @@ use Rattle.whole.specs.Sum.{All, none, also, all-map, Pairs, no-pair, pair}
 use Rattle.geom.specs.declared.Point.{Point}
 use Rattle.geom.specs.declared.Segment.{Segment}
 use Rattle.geom.specs.Plane.{samePoint, sameZ}
-use Rattle.geom.specs.Tests.{Decides, yes, no, holds, fails, samePoint?}
+use Rattle.geom.specs.Tests.{Decides, yes, no, holds, fails as refuted, samePoint?}
 use Rattle.plane.specs.NoEnd.{NoEnd}
 use Rattle.split.specs.Chain.{addTo, columns, nextY, lastOf, chainFrom, chain}
 
@@ -30,7 +30,7 @@ at-same : {x p : Point} → x ≡ p → at x p ≡ 1
 at-same {x} {p} e = rw (holds (samePoint? x p) e)
 
 at-other : {x p : Point} → x ≢ p → at x p ≡ 0
-at-other {x} {p} n = rw (fails (samePoint? x p) n)
+at-other {x} {p} n = rw (refuted (samePoint? x p) n)
 
 -- ---- different points
 
@@ -82,6 +82,29 @@ module _ (f : Point → ℕ) where
 
 pub chain-perm : (v : Segment) (ps : List Point) → Perm (chain v ps) ps
 chain-perm v ps f = sum-chain f (v .a) (v .b) (columns ps) ∙ sum-columns f ps
+
+-- so what every mark passes every point of the chain passes
+module _ (test : Point → Bool) where
+  abbrev fails : Bool → ℕ
+  fails b = cond b 0 1
+
+  abbrev failed : List Point → ℕ
+  failed ps = sum (λ p. fails (test p)) ps
+
+  none-failed : {ps : List Point} → All (λ p. test p ≡ true) ps → failed ps ≡ 0
+  none-failed none = refl
+  none-failed (also {t = p} e h) = let z : fails (test p) ≡ 0 = rw e in omega (arith, none-failed h)
+
+  all-passed : (ps : List Point) → failed ps ≡ 0 → All (λ p. test p ≡ true) ps
+  all-passed [] h = none
+  all-passed (p ∷ ps) h = also (passed (test p) (omega arith)) (all-passed ps (omega arith))
+    where
+      passed : (b : Bool) → fails b ≡ 0 → b ≡ true
+      passed true e = refl
+      passed false e = absurd (omega arith)
+
+  pub chain-all : (v : Segment) {ps : List Point} → All (λ p. test p ≡ true) ps → All (λ p. test p ≡ true) (chain v ps)
+  chain-all v {ps} h = all-passed (chain v ps) (chain-perm v ps (λ p. fails (test p)) ∙ none-failed h)
 
 -- ---- from a over the marks to b
 

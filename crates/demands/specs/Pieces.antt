@@ -1,5 +1,5 @@
--- Splitting at the marks of a look gives segments that run forward: the marks of a segment are different points (they are tidied) and none is an end of it, so the
--- two ends of each piece differ, and it is turned as needed.
+-- Splitting at the marks of a look gives segments on the grid that run forward: the marks of a segment are different points (they are tidied) and none is an end of
+-- it, so the two ends of each piece differ, and it is turned as needed.
 use mathlib.Core.Path.{_≡_, ap₂, sym, _∙_}
 use mathlib.Core.Bool.{Bool, true}
 use mathlib.Core.List.{List, [], _∷_, _++_, map}
@@ -15,24 +15,27 @@ use Rattle.whole.specs.Sum.{All, none, also, all-map, all-both, all-of, all-app
 use Rattle.whole.specs.KindSort.{by-numbers}
 use Rattle.geom.specs.declared.Point.{Point}
 use Rattle.geom.specs.declared.Segment.{Segment}
-use Rattle.geom.specs.Plane.{Before, sameZ}
+use Rattle.geom.specs.Plane.{GridPoint, GridSegment, Before, gridPoint, sameZ}
 use Rattle.geom.specs.Order.{before-differ}
-use Rattle.geom.specs.Tests.{same?, when-true}
+use Rattle.geom.specs.Tests.{same?, gridPoint?, holds, when-true}
 use Rattle.plane.specs.NoEnd.{NoEnd}
-use Rattle.segm.specs.ForwardLaws.{forward-runs}
+use Rattle.segm.specs.Forward.{forward}
+use Rattle.segm.specs.ForwardLaws.{forward-grid, forward-runs}
 use Rattle.split.specs.declared.answer.Mark.{Mark}
 use Rattle.split.specs.Marks.{marks}
 use Rattle.split.specs.Look.{markOrder, sameMark, tidy, look}
+use Rattle.split.specs.LookLaws.{cut-on-grid, look-cuts}
 use Rattle.split.specs.Chain.{pointsOf, chain, piecesFrom, splitFrom}
 use Rattle.split.proofs.Tidying.{sameMark?}
 use Rattle.overlay.specs.Looks.{radius}
 use Rattle.demands.specs.Chain.{cut}
 use Rattle.demands.specs.Distinct.{distinct-apart, distinct-all}
-use Rattle.demands.specs.Named.{Clear, step, look-named, clear-of}
-use Rattle.demands.specs.Once.{Once, from-a-to-b, next-differs}
+use Rattle.demands.specs.Clear.{Clear, step, clear-of}
+use Rattle.demands.specs.Once.{Once, from-a-to-b, next-differs, chain-all}
 
-abbrev pub Runs : Segment → Type 0
-Runs t = Before (t .a) (t .b)
+-- on the grid, and forward
+abbrev pub Good : Segment → Type 0
+Good t = GridSegment t × Before (t .a) (t .b)
 
 -- ---- tidy marks
 
@@ -76,18 +79,33 @@ module _ (i : ℕ) where
 abbrev piece : Segment → Point → Point → Segment
 piece v p q = record { a = p; b = q; subject = v .subject; clip = v .clip }
 
-pieces-run : (v : Segment) (p : Point) (ps : List Point) → Once (p ∷ (ps ++ v .b ∷ [])) → All Runs (piecesFrom v p ps)
-unfolding piecesFrom
-pieces-run v p [] h = also (forward-runs (piece v p (v .b)) (next-differs p (v .b) [] h)) none
-pieces-run v p (q ∷ ps) h = also (forward-runs (piece v p q) (next-differs p q (ps ++ v .b ∷ []) h)) (pieces-run v q ps (λ x. let z = h x in omega arith))
+good : (v : Segment) (p q : Point) → GridPoint p → GridPoint q → p ≢ q → Good (forward (piece v p q))
+good v p q g h n = (forward-grid (piece v p q) (record { a = g; b = h }), forward-runs (piece v p q) n)
 
-split-run : (i : ℕ) (ms : List Mark) {L : List Segment} → Pairs _≢_ ms → All (Clear i L) ms → All Runs L → All Runs (splitFrom i ms L)
+pieces-good : (v : Segment) (p : Point) {ps : List Point} → GridPoint p → All GridPoint ps → GridPoint (v .b) → Once (p ∷ (ps ++ v .b ∷ [])) → All Good (piecesFrom v p ps)
+unfolding piecesFrom
+pieces-good v p g none k h = also (good v p (v .b) g k (next-differs p (v .b) [] h)) none
+pieces-good v p g (also {t = q} {L = ps} f fs) k h = also (good v p q g f (next-differs p q (ps ++ v .b ∷ []) h)) (pieces-good v q f fs k (λ x. let z = h x in omega arith))
+
+-- the marks of one segment, in the order in which they cut it
+module _ (v : Segment) {ps : List Point} where
+  chain-grid : All GridPoint ps → All GridPoint (chain v ps)
+  chain-grid h = all-map (λ p. when-true (gridPoint? p)) (chain-all gridPoint v (all-map (λ p. holds (gridPoint? p)) h))
+
+  cut-good : Good v → Pairs _≢_ ps → All (NoEnd v) ps → All GridPoint ps → All Good (piecesFrom v (v .a) (chain v ps))
+  cut-good g d n h = pieces-good v (v .a) (g .0 .a) (chain-grid h) (g .0 .b) (from-a-to-b v ps (before-differ (g .1)) d n)
+
+-- a mark, against a list whose first segment is number i
+abbrev Fair : ℕ → List Segment → Mark → Type 0
+Fair i L m = GridPoint (m .point) × Clear i L m
+
+split-good : (i : ℕ) (ms : List Mark) {L : List Segment} → Pairs _≢_ ms → All (Fair i L) ms → All Good L → All Good (splitFrom i ms L)
 unfolding splitFrom
-split-run i ms d c none = none
-split-run i ms d c (also {t = v} {L = L} h k) =
+split-good i ms d c none = none
+split-good i ms d c (also {t = v} {L = L} g gs) =
     all-append
-    (pieces-run v (v .a) (chain v (pointsOf i ms)) (from-a-to-b v (pointsOf i ms) (before-differ h) (points-apart i d) (points-all i (all-map (λ m. first) c))))
-    (split-run (suc i) ms d (all-map (λ m. rest) c) k)
+    (cut-good v g (points-apart i d) (points-all i (all-map (λ m r. first (r .1)) c)) (points-all i (all-map (λ m r e. r .0) c)))
+    (split-good (suc i) ms d (all-map (λ m r. (r .0, rest (r .1))) c) gs)
   where
     first : {m : Mark} → Clear i (v ∷ L) m → m .segment ≡ pos i → NoEnd v (m .point)
     first (step f r) = f
@@ -96,5 +114,6 @@ split-run i ms d c (also {t = v} {L = L} h k) =
     rest (step f r) = r
 
 -- THE LAW
-pub cut-runs : {L : List Segment} → All Runs L → All Runs (cut L)
-cut-runs {L} h = split-run 0 (tidy (look radius L)) (tidy-apart (look radius L)) (tidy-all (all-map (λ m. clear-of) (look-named radius 0 L))) h
+pub cut-is-good : {L : List Segment} → All Good L → All Good (cut L)
+cut-is-good {L} h =
+    split-good 0 (tidy (look radius L)) (tidy-apart (look radius L)) (tidy-all (all-map (λ m c. (cut-on-grid c, clear-of c)) (look-cuts radius L (all-map (λ t g. g .0) h)))) h
