@@ -1,4 +1,6 @@
--- In reading order: the checks and their order; what they come to, in the words of the table; the net count by which the code tests 6.
+-- In reading order: the checks and their order; the same in the words of the table; what an input without a fault has; the net count by which the code
+-- tests 6.
 pub mod Checks
-pub mod Roomy
+pub mod Exactly
+pub mod Accepted
 pub mod Net

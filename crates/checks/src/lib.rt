@@ -223,8 +223,8 @@ fn net_at(rows: &[i32], n: usize, p: Point) -> Net
         subject: 0,
         clip: 0,
     };
-    for i in 0..n {
-        let v = geom::read(rows, i);
+    for j in 0..n {
+        let v = geom::read(rows, j);
         net = ended(started(net, v, p), v, p);
     }
     net

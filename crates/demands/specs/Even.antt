@@ -10,10 +10,10 @@ use Rattle.geom.specs.Plane.{Side, subject, clip, count}
 use Rattle.segm.specs.Forward.{forward, sorted}
 use Rattle.segm.specs.Merge.{merged}
 use Rattle.segm.specs.Balance.{Balanced, balanced, closed}
+use Rattle.segm.specs.BalanceLaws.{balanced-test}
 use Rattle.split.specs.Look.{look, tidy}
 use Rattle.laws.specs.Steps.{keeps}
 use Rattle.laws.specs.Prepared.{∂-forward, ∂-sorted, ∂-merging}
-use Rattle.laws.specs.Balance.{balanced-test}
 use Rattle.laws.specs.Cuts.{split-balanced}
 use Rattle.overlay.specs.Looks.{radius}
 use Rattle.demands.specs.Chain.{start, cut, next, Looks, empty, done, again}

@@ -11,10 +11,10 @@ use Rattle.geom.specs.Plane.{point, segment, Side, subject, clip, count, before
 use Rattle.geom.specs.Off.{Off, cross, Within, rising, falling}
 use Rattle.plane.specs.Apart.{Apart, apart, apart-is}
 use Rattle.segm.specs.Balance.{Balanced, balancedAt, balancedOver}
+use Rattle.segm.specs.BalanceLaws.{balanced-test}
 use Rattle.build.specs.Masks.{bottom, top}
 use Rattle.laws.specs.Edges.{running, standing, edges}
 use Rattle.laws.specs.Ray.{ray}
-use Rattle.laws.specs.Balance.{balanced-test}
 use Rattle.laws.specs.Settled.{here, there, Settled, apartFrom, settled, settled-of}
 use Rattle.laws.specs.Law.{signOfSides, sides-law}
 use Rattle.laws.specs.Beside.{Between, over, under, Beside, ray-over}

@@ -7,7 +7,6 @@
 --   Steps       what a run does to a list keeps it
 --   Prepared    the list of the first look is balanced exactly if the given one is
 --   Cuts        splitting keeps it
---   Balance     it is decided at the ends of the list
 -- Masks, of settled and balanced lists:
 --   Settled     forward, and every two apart
 --   Place       which of two apart segments is under the other
@@ -38,7 +37,6 @@ pub mod Boundary
 pub mod Steps
 pub mod Prepared
 pub mod Cuts
-pub mod Balance
 pub mod Place
 pub mod Settled
 pub mod Below

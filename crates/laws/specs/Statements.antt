@@ -14,6 +14,7 @@ use Rattle.geom.specs.Off.{Off, cross}
 use Rattle.segm.specs.Forward.{forward, sorted}
 use Rattle.segm.specs.Merge.{merged}
 use Rattle.segm.specs.Balance.{Balanced, balanced}
+use Rattle.segm.specs.BalanceLaws.{balanced-test}
 use Rattle.split.specs.declared.answer.Mark.{Mark}
 use Rattle.split.specs.Chain.{split}
 use Rattle.build.specs.Masks.{below, bottom, top, live}
@@ -22,7 +23,6 @@ use Rattle.laws.specs.Ray.{ray}
 use Rattle.laws.specs.Boundary.{∂, balanced-is, region}
 use Rattle.laws.specs.Prepared.{prepared-balanced}
 use Rattle.laws.specs.Cuts.{split-balanced}
-use Rattle.laws.specs.Balance.{balanced-test}
 use Rattle.laws.specs.Settled.{In, Settled}
 use Rattle.laws.specs.Along.{both-ends}
 use Rattle.laws.specs.Upright.{left-is-top}

@@ -8,7 +8,7 @@ use Rattle.whole.specs.Kind.{rowsFrom}
 use Rattle.geom.specs.declared.Segment.{Segment}
 use Rattle.geom.specs.Rows.{segments}
 use Rattle.checks.specs.Checks.{isShort, isBad, some, isOff, isPoint, hasLeast, faultOf}
-use Rattle.checks.specs.Roomy.{Roomy, roomy}
+use Rattle.checks.specs.Accepted.{Roomy, roomy-when}
 use Rattle.checks.proofs.check.Statement.{statement}
 use Rattle.checks.proofs.check.Tie as tie
 
@@ -48,7 +48,7 @@ none-least : (c : tie.Else5) → some hasLeast (rows (start5 c)) ≡ false
 none-least c = sym (c .before .some-least .ensures) ∙ c .if5 .left
 
 room : (c : tie.Else1) → Roomy (start1 c .args .settings .n) (length (start1 c .args .input .now)) (start1 c .args .work) (start1 c .args .masks)
-room c = roomy _ _ _ _ (not-short c)
+room c = roomy-when _ _ _ _ (not-short c)
 
 -- ---- the needs
 

@@ -7,10 +7,10 @@ use Rattle.checks.proofs.net_at.Statement.{statement}
 use Rattle.checks.proofs.net_at.Tie as tie
 
 abbrev Inv-loop : tie.InvT-loop
-Inv-loop rows n p net₀ i₀ net i = Tally p rows n i net
+Inv-loop rows n p net₀ j₀ net j = Tally p rows n j net
 
 abbrev μ-loop : tie.MeasureT-loop
-μ-loop rows n p net₀ i₀ net i = n - i
+μ-loop rows n p net₀ j₀ net j = n - j
 
 loop-holds : tie.Need-loop-holds Inv-loop μ-loop
 loop-holds c = tally-start (c .args .p) (c .args .rows .now) (c .args .n)
@@ -29,8 +29,8 @@ ended-requires c κs =
     let near = c .started .ensures .1 in
     (omega (arith, l .loop .inv .subject, l .before .pre .0, near .0), omega (arith, l .loop .inv .clip, l .before .pre .0, near .1))
 
-add-i : tie.Need-add-i Inv-loop μ-loop
-add-i c = search needs
+add-j : tie.Need-add-j Inv-loop μ-loop
+add-j c = search needs
 
 loop-less : tie.Need-loop-less Inv-loop μ-loop
 loop-less c = search needs
@@ -54,7 +54,7 @@ net-at-spec =
     read-requires
     started-requires
     ended-requires
-    add-i
+    add-j
     loop-less
     loop-again
     returns)
