@@ -48,10 +48,10 @@ fn has_fault(v: Segment, number: u8) -> bool
     ensures { λ r. ⌜ r ≡ fault number v ⌝ }
 {
     if number == 3 {
-        return !geom::segment_on_grid(v);
+        return !order::segment_on_grid(v);
     }
     if number == 4 {
-        return geom::same_point(v.a, v.b);
+        return order::same_point(v.a, v.b);
     }
     if is_least(v.subject) {
         return true;

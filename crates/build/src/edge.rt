@@ -10,10 +10,10 @@ use geom::Segment;
 pub(crate) fn is_live(t: Segment, p: Point) -> bool
     ensures { λ r. ⌜ r ≡ live p t ⌝ }
 {
-    if geom::before(p, t.a) {
+    if order::before(p, t.a) {
         return false;
     }
-    geom::less(p.x, t.b.x)
+    order::less(p.x, t.b.x)
 }
 
 // Whether t lies below e just right of e.a; of an upright e, at its a or below.
@@ -31,10 +31,10 @@ pub(crate) fn is_below(t: Segment, e: Segment) -> bool
 fn is_alive(t: Segment, x: Coord) -> bool
     ensures { λ r. ⌜ r ≡ alive (x .0) t ⌝ }
 {
-    if geom::less(x, t.a.x) {
+    if order::less(x, t.a.x) {
         return false;
     }
-    geom::less(x, t.b.x)
+    order::less(x, t.b.x)
 }
 
 // Where e.a lies on t's line, e runs above t just if its b lies left of that line: so the lesser slope is one more turn.
@@ -43,15 +43,15 @@ fn is_under(t: Segment, e: Segment) -> bool
     requires { ⌜ GridSegment e ⌝ }
     ensures { λ r. ⌜ r ≡ under t e ⌝ }
 {
-    let h = geom::turn(t.a, t.b, e.a);
+    let h = turns::turn(t.a, t.b, e.a);
     if 0 < h {
         return true;
     }
     if h < 0 {
         return false;
     }
-    if geom::same(e.a.x, e.b.x) {
+    if order::same(e.a.x, e.b.x) {
         return true;
     }
-    0 < geom::turn(t.a, t.b, e.b)
+    0 < turns::turn(t.a, t.b, e.b)
 }

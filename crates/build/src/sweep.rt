@@ -105,7 +105,7 @@ fn in_order(work: &[i32], n: usize) -> bool
     for i in 1..n {
         let u = geom::read(work, i - 1);
         let v = geom::read(work, i);
-        if geom::before(v.a, u.a) {
+        if order::before(v.a, u.a) {
             return false;
         }
     }
@@ -121,7 +121,7 @@ fn node_end(work: &[i32], n: usize, i: usize) -> usize
     let v = geom::read(work, i);
     for j in i + 1..n {
         let t = geom::read(work, j);
-        if geom::same_point(v.a, t.a) {
+        if order::same_point(v.a, t.a) {
             continue;
         }
         return j;

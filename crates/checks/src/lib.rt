@@ -150,13 +150,13 @@ fn some_least(rows: &[i32], n: usize) -> bool
 fn off(v: Segment) -> bool
     ensures { λ r. ⌜ r ≡ isOff v ⌝ }
 {
-    !geom::segment_on_grid(v)
+    !order::segment_on_grid(v)
 }
 
 fn point(v: Segment) -> bool
     ensures { λ r. ⌜ r ≡ isPoint v ⌝ }
 {
-    geom::same_point(v.a, v.b)
+    order::same_point(v.a, v.b)
 }
 
 fn least(v: Segment) -> bool
@@ -237,7 +237,7 @@ fn started(net: Net, v: Segment, p: Point) -> Net
     ensures { λ r. ⌜ r ≡ startedAt p net v ⌝ }
     ensures { λ r. ⌜ (natAbs (r .subject) ≤ natAbs (net .subject) + 2147483648) × (natAbs (r .clip) ≤ natAbs (net .clip) + 2147483648) ⌝ }
 {
-    if geom::same_point(p, v.a) {
+    if order::same_point(p, v.a) {
         let subject = plus(net.subject, v.subject);
         let clip = plus(net.clip, v.clip);
         return Net { subject, clip };
@@ -252,7 +252,7 @@ fn ended(net: Net, v: Segment, p: Point) -> Net
     ensures { λ r. ⌜ r ≡ endedAt p net v ⌝ }
     ensures { λ r. ⌜ (natAbs (r .subject) ≤ natAbs (net .subject) + 2147483648) × (natAbs (r .clip) ≤ natAbs (net .clip) + 2147483648) ⌝ }
 {
-    if geom::same_point(p, v.b) {
+    if order::same_point(p, v.b) {
         let subject = less(net.subject, v.subject);
         let clip = less(net.clip, v.clip);
         return Net { subject, clip };

@@ -21,10 +21,10 @@ use point::End;
 fn inner(v: Segment, p: Point) -> bool
     ensures { λ r. ⌜ r ≡ isInner v p ⌝ }
 {
-    if geom::between(v.a, p, v.b) {
+    if order::between(v.a, p, v.b) {
         return true;
     }
-    geom::between(v.b, p, v.a)
+    order::between(v.b, p, v.a)
 }
 
 fn bit_if(hit: bool, value: u8) -> u8
@@ -63,7 +63,7 @@ fn on_line(v: Segment, p: Point) -> bool
     requires { ⌜ GridPoint p ⌝ }
     ensures { λ r. ⌜ r ≡ onLine v p ⌝ }
 {
-    geom::side(v.a, v.b, p) == 1
+    turns::side(v.a, v.b, p) == 1
 }
 
 // The end e, if p is within the radius of it.
@@ -170,23 +170,23 @@ pub fn crossing(target: Segment, other: Segment, radius: u64) -> Crossing
     requires { ⌜ GridSegment other ⌝ }
     ensures { λ r. ⌜ r ≡ crossingOf radius target other ⌝ }
 {
-    let s1 = geom::side(target.a, target.b, other.a);
-    let s2 = geom::side(target.a, target.b, other.b);
+    let s1 = turns::side(target.a, target.b, other.a);
+    let s2 = turns::side(target.a, target.b, other.b);
     if s1 == s2 {
         if s1 % 2 == 0 {
             return Crossing::Nothing;
         }
     }
-    let s3 = geom::side(other.a, other.b, target.a);
-    let s4 = geom::side(other.a, other.b, target.b);
+    let s3 = turns::side(other.a, other.b, target.a);
+    let s4 = turns::side(other.a, other.b, target.b);
     by_sides(target, other, s1, s2, s3, s4, radius)
 }
 
 fn both_on_grid(target: Segment, other: Segment) -> bool
     ensures { λ r. ⌜ r ≡ gridSegment target && gridSegment other ⌝ }
 {
-    if geom::segment_on_grid(target) {
-        return geom::segment_on_grid(other);
+    if order::segment_on_grid(target) {
+        return order::segment_on_grid(other);
     }
     false
 }
@@ -194,10 +194,10 @@ fn both_on_grid(target: Segment, other: Segment) -> bool
 fn both_have_length(target: Segment, other: Segment) -> bool
     ensures { λ r. ⌜ r ≡ hasLength target && hasLength other ⌝ }
 {
-    if geom::same_point(target.a, target.b) {
+    if order::same_point(target.a, target.b) {
         return false;
     }
-    !geom::same_point(other.a, other.b)
+    !order::same_point(other.a, other.b)
 }
 
 // Of any two segments. `radius` is squared.

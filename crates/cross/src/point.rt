@@ -64,7 +64,7 @@ fn moved(c: Coord, offset: i64) -> Coord
     requires { ⌜ OnGrid (c .0 +ℤ offset) ⌝ }
     ensures { λ r. ⌜ r ≡ movedBy c offset ⌝ }
 {
-    Coord((geom::wide(c.0) + offset) as i32)
+    Coord((turns::wide(c.0) + offset) as i32)
 }
 
 // The squared distance.
@@ -73,8 +73,8 @@ fn far(p: Point, q: Point) -> u64
     requires { ⌜ GridPoint q ⌝ }
     ensures { λ r. ⌜ r ≡ farOf p q ⌝ }
 {
-    let w = size(geom::gap(p.x, q.x));
-    let h = size(geom::gap(p.y, q.y));
+    let w = size(turns::gap(p.x, q.x));
+    let h = size(turns::gap(p.y, q.y));
     w * w + h * h
 }
 
@@ -102,8 +102,8 @@ fn on_upright(target: Segment, other: Segment) -> Point
     requires { ⌜ target .a .x .0 ≡ target .b .x .0 ⌝ }
     ensures { λ r. ⌜ r ≡ crossPoint target other ⌝ }
 {
-    let n = geom::turn(other.a, other.b, target.a);
-    let d = geom::gap(other.a.x, other.b.x);
+    let n = turns::turn(other.a, other.b, target.a);
+    let d = turns::gap(other.a.x, other.b.x);
     let x = target.a.x;
     let y = moved(target.a.y, cut(n, d));
     Point { x, y }
@@ -117,8 +117,8 @@ fn on_level(target: Segment, other: Segment) -> Point
     requires { ⌜ target .a .y .0 ≡ target .b .y .0 ⌝ }
     ensures { λ r. ⌜ r ≡ crossPoint target other ⌝ }
 {
-    let n = geom::turn(other.a, other.b, target.a);
-    let d = geom::gap(other.b.y, other.a.y);
+    let n = turns::turn(other.a, other.b, target.a);
+    let d = turns::gap(other.b.y, other.a.y);
     let y = target.a.y;
     let x = moved(target.a.x, cut(n, d));
     Point { x, y }
@@ -132,10 +132,10 @@ fn on_slope(target: Segment, other: Segment) -> Point
     requires { ⌜ target .a .y .0 ≢ target .b .y .0 ⌝ }
     ensures { λ r. ⌜ r ≡ crossPoint target other ⌝ }
 {
-    let n = geom::turn(other.a, other.b, target.a);
-    let d = geom::minus(n, geom::turn(other.a, other.b, target.b));
-    let x = moved(target.a.x, share(n, d, geom::gap(target.b.x, target.a.x)));
-    let y = moved(target.a.y, share(n, d, geom::gap(target.b.y, target.a.y)));
+    let n = turns::turn(other.a, other.b, target.a);
+    let d = turns::minus(n, turns::turn(other.a, other.b, target.b));
+    let x = moved(target.a.x, share(n, d, turns::gap(target.b.x, target.a.x)));
+    let y = moved(target.a.y, share(n, d, turns::gap(target.b.y, target.a.y)));
     Point { x, y }
 }
 
@@ -145,10 +145,10 @@ pub(crate) fn cross_point(target: Segment, other: Segment) -> Point
     requires { ⌜ Middle target other ⌝ }
     ensures { λ r. ⌜ r ≡ crossPoint target other ⌝ }
 {
-    if geom::same(target.a.x, target.b.x) {
+    if order::same(target.a.x, target.b.x) {
         return on_upright(target, other);
     }
-    if geom::same(target.a.y, target.b.y) {
+    if order::same(target.a.y, target.b.y) {
         return on_level(target, other);
     }
     on_slope(target, other)

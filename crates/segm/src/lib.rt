@@ -41,7 +41,7 @@ pub fn forward(v: Segment) -> Segment
     requires { ⌜ Countable (v .clip) ⌝ }
     ensures { λ r. ⌜ r ≡ forwardOf v ⌝ }
 {
-    if geom::before(v.b, v.a) {
+    if order::before(v.b, v.a) {
         return geom::turned(v);
     }
     v
@@ -116,8 +116,8 @@ fn close(work: &mut [i32], w: usize, g: Group) -> usize
 fn same_ends(g: Group, v: Segment) -> bool
     ensures { λ r. ⌜ r ≡ sameEnds (joint g) v ⌝ }
 {
-    if geom::same_point(g.a, v.a) {
-        return geom::same_point(g.b, v.b);
+    if order::same_point(g.a, v.a) {
+        return order::same_point(g.b, v.b);
     }
     false
 }
@@ -128,8 +128,8 @@ fn alone(v: Segment, met: bool) -> Group
 {
     let a = v.a;
     let b = v.b;
-    let subject = geom::wide(v.subject.0);
-    let clip = geom::wide(v.clip.0);
+    let subject = turns::wide(v.subject.0);
+    let clip = turns::wide(v.clip.0);
     Group {
         a,
         b,

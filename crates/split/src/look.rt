@@ -51,8 +51,8 @@ fn first_fault(work: &[i32], n: usize) -> u8
     let mut fault: u8 = 0;
     for i in 0..n {
         let v = geom::read(work, i);
-        if geom::segment_on_grid(v) {
-            if geom::same_point(v.a, v.b) {
+        if order::segment_on_grid(v) {
+            if order::same_point(v.a, v.b) {
                 fault = 4;
             }
         } else {

@@ -50,7 +50,7 @@ pub(crate) fn same(m: Mark, n: Mark) -> bool
     ensures { λ r. ⌜ r ≡ sameMark m n ⌝ }
 {
     if m.segment == n.segment {
-        return geom::same_point(m.point, n.point);
+        return order::same_point(m.point, n.point);
     }
     false
 }

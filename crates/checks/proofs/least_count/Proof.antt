@@ -4,7 +4,7 @@ use lib.IntN.{negsuc}
 use mir.Syntax.{w32}
 use mir.Val.{SFits}
 use borrow.Author.Needs.{needs}
-use Rattle.geom.proofs.Bits.{eqb-bits}
+use Rattle.order.proofs.Bits.{eqb-bits}
 use Rattle.checks.proofs.least_count.Statement.{statement}
 use Rattle.checks.proofs.least_count.Tie as tie
 

@@ -1,7 +1,7 @@
 -- `checks::zero` meets its contract: a number of 64 bits is 0 where its bits are.
 use native.Mathlib.Omega.{arith}
 use lib.IntN.{pos}
-use Rattle.geom.proofs.Bits.{eqb-bits}
+use Rattle.order.proofs.Bits.{eqb-bits}
 use Rattle.checks.proofs.zero.Statement.{statement}
 use Rattle.checks.proofs.zero.Tie as tie
 

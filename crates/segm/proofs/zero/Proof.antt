@@ -1,7 +1,7 @@
 -- `segm::zero` meets its contract: a number of 64 bits is 0 where its bits are.
 use lib.IntN.{pos}
 use native.Mathlib.Omega.{arith}
-use Rattle.geom.proofs.Bits.{eqb-bits}
+use Rattle.order.proofs.Bits.{eqb-bits}
 use Rattle.segm.proofs.zero.Statement.{statement}
 use Rattle.segm.proofs.zero.Tie as tie
 

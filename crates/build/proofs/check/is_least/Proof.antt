@@ -4,7 +4,7 @@ use lib.IntN.{negsuc}
 use mir.Syntax.{w32}
 use mir.Val.{SFits}
 use borrow.Author.Needs.{needs}
-use Rattle.geom.proofs.Bits.{eqb-bits}
+use Rattle.order.proofs.Bits.{eqb-bits}
 use Rattle.build.proofs.check.is_least.Statement.{statement}
 use Rattle.build.proofs.check.is_least.Tie as tie
 
