@@ -1,0 +1,331 @@
+// Splitting at the marks (split/solver.rs `apply`), in the work list itself.
+// The list is written from its back: the pieces of a segment start behind those of the segments before it, so never before its own row,
+// and each segment is read before anything is written over it.
+ghost use mathlib.Core.Path.{_≡_};
+ghost use mathlib.Core.Bool.{true, false, cond};
+ghost use Prim.Native.Nat.{_+_, _-_, _*_, _≤_, _<_};
+ghost use lib.IntN.{pos, negsuc};
+ghost use lib.ListN.{length};
+ghost use lib.Seq.{sets};
+ghost use lib.Signed.{ltZ};
+ghost use Rattle.whole.specs.Kind.{rowAt, rowsFrom, flat};
+ghost use Rattle.geom.specs.Limits.{markRoom};
+ghost use Rattle.geom.specs.Plane.{Countable, sameZ};
+ghost use Rattle.geom.specs.Rows.{segments};
+ghost use Rattle.checks.specs.Checks.{some, hasLeast};
+ghost use Rattle.split.specs.Marks.{marks as markRows};
+ghost use Rattle.split.specs.Chain.{nextY, lastOf, columns, chain, piecesFrom, split as splitOf};
+ghost use Rattle.apply.specs.Answer.{names as namesOf, earlier as isEarlier, leads as leadsTo, inOrder, applyAnswer, applyList};
+ghost use Rattle.apply.specs.Steps.{markFrom, pointAt, points, pieceOf, piecesTo, taken, joined, startOf};
+use geom::Coord;
+use geom::Count;
+use geom::Point;
+use geom::Segment;
+use split::answer::Mark;
+
+pub enum Applied {
+    // So many segments.
+    Pieces(usize),
+    // The lists are too short, or the marks are not in order (1).
+    Short,
+    // A count is -2^31 (5).
+    BadCount,
+    // The pieces have no room in the work list (8).
+    Full,
+}
+
+// The first n rows of `work`, cut at the first `count` marks. After 8 the work list is wholly zero.
+pub fn apply(work: &mut [i32], n: usize, marks: &[i32], count: usize) -> Applied
+    ensures { λ r. ⌜ r ≡ applyAnswer (now (work .entry)) n (now (marks .entry)) count ⌝ }
+    ensures { λ r. ⌜ now (work .exit) ≡ applyList r (now (work .entry)) n (now (marks .entry)) count ⌝ }
+{
+    let room = checks::work_room(work.len());
+    if room < n {
+        return Applied::Short;
+    }
+    if mark_room(marks.len()) < count {
+        return Applied::Short;
+    }
+    if in_order(marks, count, n) {
+        if some_least(work, n) {
+            return Applied::BadCount;
+        }
+        if room < n + count {
+            lists::clear_i32(work);
+            return Applied::Full;
+        }
+        cut_all(work, n, marks, count);
+        return Applied::Pieces(n + count);
+    }
+    Applied::Short
+}
+
+// How many marks a list of so many numbers has room for.
+fn mark_room(numbers: usize) -> usize
+    ensures { λ r. ⌜ r ≡ markRoom numbers ⌝ }
+{
+    let whole = numbers / 3;
+    if 65536 < whole {
+        return 65536;
+    }
+    whole
+}
+
+// Mark number i.
+fn mark(marks: &[i32], i: usize) -> Mark
+    requires { ⌜ 3 * i + 3 ≤ length (now marks) ⌝ }
+    ensures { λ r. ⌜ r ≡ rowAt markRows (now (marks .entry)) i ⌝ }
+{
+    mark_from(marks, 3 * i)
+}
+
+// The mark whose three numbers start at place k.
+fn mark_from(marks: &[i32], k: usize) -> Mark
+    requires { ⌜ k + 3 ≤ length (now marks) ⌝ }
+    ensures { λ r. ⌜ r ≡ markFrom (now (marks .entry)) k ⌝ }
+{
+    Mark {
+        segment: marks[k],
+        point: Point {
+            x: Coord(marks[k + 1]),
+            y: Coord(marks[k + 2]),
+        },
+    }
+}
+
+// The mark is one of segment i.
+fn is_of(m: Mark, i: usize) -> bool
+    requires { ⌜ i ≤ 2048 ⌝ }
+    ensures { λ r. ⌜ r ≡ sameZ (m .segment) (pos i) ⌝ }
+{
+    m.segment == i as i32
+}
+
+fn names(m: Mark, n: usize) -> bool
+    requires { ⌜ n ≤ 2048 ⌝ }
+    ensures { λ r. ⌜ r ≡ namesOf n m ⌝ }
+{
+    if m.segment < 0 {
+        return false;
+    }
+    m.segment < n as i32
+}
+
+// The segment of m comes before that of k.
+fn of_lower(m: Mark, k: Mark) -> bool
+    ensures { λ r. ⌜ r ≡ ltZ (m .segment) (k .segment) ⌝ }
+{
+    m.segment < k.segment
+}
+
+fn earlier(m: Mark, k: Mark) -> bool
+    ensures { λ r. ⌜ r ≡ isEarlier m k ⌝ }
+{
+    if of_lower(m, k) {
+        return true;
+    }
+    if of_lower(k, m) {
+        return false;
+    }
+    geom::before(m.point, k.point)
+}
+
+// Mark number i is earlier than the one after it.
+fn leads(marks: &[i32], i: usize, count: usize) -> bool
+    requires { ⌜ i < count ⌝ }
+    requires { ⌜ 3 * count ≤ length (now marks) ⌝ }
+    ensures { λ r. ⌜ r ≡ leadsTo (rowAt markRows (now (marks .entry)) i) (rowsFrom markRows (now (marks .entry)) (i + 1) (count - (i + 1))) ⌝ }
+{
+    if i + 1 < count {
+        return earlier(mark(marks, i), mark(marks, i + 1));
+    }
+    true
+}
+
+fn in_order(marks: &[i32], count: usize, n: usize) -> bool
+    requires { ⌜ n ≤ 2048 ⌝ }
+    requires { ⌜ 3 * count ≤ length (now marks) ⌝ }
+    ensures { λ r. ⌜ r ≡ inOrder n (rowsFrom markRows (now (marks .entry)) 0 count) ⌝ }
+{
+    for i in 0..count {
+        if names(mark(marks, i), n) {} else {
+            return false;
+        }
+        if leads(marks, i, count) {} else {
+            return false;
+        }
+    }
+    true
+}
+
+fn is_least(c: Count) -> bool
+    ensures { λ r. ⌜ r ≡ sameZ (c .0) (negsuc 2147483647) ⌝ }
+{
+    c.0 == -2147483648
+}
+
+fn has_least(v: Segment) -> bool
+    ensures { λ r. ⌜ r ≡ hasLeast v ⌝ }
+{
+    if is_least(v.subject) {
+        return true;
+    }
+    is_least(v.clip)
+}
+
+fn some_least(work: &[i32], n: usize) -> bool
+    requires { ⌜ 6 * n ≤ length (now work) ⌝ }
+    ensures { λ r. ⌜ r ≡ some hasLeast (rowsFrom segments (now (work .entry)) 0 n) ⌝ }
+{
+    for i in 0..n {
+        if has_least(geom::read(work, i)) {
+            return true;
+        }
+    }
+    false
+}
+
+// Every segment from the last to the first, each with the run of its marks.
+fn cut_all(work: &mut [i32], n: usize, marks: &[i32], count: usize)
+    requires { ⌜ n ≤ 2048 ⌝ }
+    requires { ⌜ 6 * (n + count) ≤ length (now work) ⌝ }
+    requires { ⌜ 3 * count ≤ length (now marks) ⌝ }
+    requires { ⌜ inOrder n (rowsFrom markRows (now marks) 0 count) ≡ true ⌝ }
+    requires { ⌜ some hasLeast (rowsFrom segments (now work) 0 n) ≡ false ⌝ }
+    ensures { λ _. ⌜ now (work .exit) ≡ sets (now (work .entry)) 0 (flat segments (splitOf (rowsFrom markRows (now (marks .entry)) 0 count) (rowsFrom segments (now (work .entry)) 0 n))) ⌝ }
+{
+    let mut i = n;
+    let mut e = count;
+    while 0 < i {
+        i -= 1;
+        let a = run_start(marks, i, e);
+        let v = geom::read(work, i);
+        cut(work, i + a, v, &marks[3 * a..3 * e], e - a);
+        e = a;
+    }
+}
+
+// The run of the marks of segment i that ends before mark number e.
+fn run_start(marks: &[i32], i: usize, e: usize) -> usize
+    requires { ⌜ i ≤ 2048 ⌝ }
+    requires { ⌜ 3 * e ≤ length (now marks) ⌝ }
+    ensures { λ r. ⌜ r ≡ startOf i (now (marks .entry)) e ⌝ }
+    ensures { λ r. ⌜ r ≤ e ⌝ }
+{
+    let mut a = e;
+    while 0 < a {
+        if is_of(mark(marks, a - 1), i) {} else {
+            return a;
+        }
+        a -= 1;
+    }
+    a
+}
+
+// The pieces of v, cut at the marks of a run, become the rows from number `at` on.
+fn cut(work: &mut [i32], at: usize, v: Segment, run: &[i32], size: usize)
+    requires { ⌜ Countable (v .subject) ⌝ }
+    requires { ⌜ Countable (v .clip) ⌝ }
+    requires { ⌜ 3 * size ≤ length (now run) ⌝ }
+    requires { ⌜ 6 * (at + size) + 6 ≤ length (now work) ⌝ }
+    ensures { λ _. ⌜ now (work .exit) ≡ sets (now (work .entry)) (6 * at) (flat segments (piecesFrom v (v .a) (chain v (points (now (run .entry)) 0 size)))) ⌝ }
+{
+    let mut p = v.a;
+    let mut g: usize = 0;
+    while g < size {
+        let e = column_end(run, g, size);
+        let back = geom::less(next_y(run, e, size, v.b), p.y);
+        p = walk(work, at + g, v, p, &run[3 * g..3 * e], e - g, back);
+        g = e;
+    }
+    geom::write(work, at + size, piece(v, p, v.b));
+}
+
+// Where the column of mark number g ends: the marks of equal x from it on.
+fn column_end(run: &[i32], g: usize, size: usize) -> usize
+    requires { ⌜ g < size ⌝ }
+    requires { ⌜ 3 * size ≤ length (now run) ⌝ }
+    ensures { λ r. ⌜ r ≡ g + 1 + joined (pointAt (now (run .entry)) g) (points (now (run .entry)) (g + 1) (size - (g + 1))) ⌝ }
+    ensures { λ r. ⌜ (g < r) × (r ≤ size) ⌝ }
+{
+    let mut e = g + 1;
+    let mut p = mark(run, g).point;
+    while e < size {
+        let q = mark(run, e).point;
+        if geom::same(p.x, q.x) {} else {
+            return e;
+        }
+        p = q;
+        e += 1;
+    }
+    e
+}
+
+// The y of the point after a column: the next mark in the sorted run, or b.
+fn next_y(run: &[i32], e: usize, size: usize, b: Point) -> Coord
+    requires { ⌜ e ≤ size ⌝ }
+    requires { ⌜ 3 * size ≤ length (now run) ⌝ }
+    ensures { λ r. ⌜ r .0 ≡ nextY b (columns (points (now (run .entry)) e (size - e))) ⌝ }
+{
+    if e < size {
+        return mark(run, e).point.y;
+    }
+    b.y
+}
+
+// The pieces of v from p through the marks of a column, the last mark first if `back`, become the rows from number `at` on. The last point.
+fn walk(
+    work: &mut [i32],
+    at: usize,
+    v: Segment,
+    p: Point,
+    column: &[i32],
+    size: usize,
+    back: bool,
+) -> Point
+    requires { ⌜ Countable (v .subject) ⌝ }
+    requires { ⌜ Countable (v .clip) ⌝ }
+    requires { ⌜ 3 * size ≤ length (now column) ⌝ }
+    requires { ⌜ 6 * (at + size) ≤ length (now work) ⌝ }
+    ensures { λ r. ⌜ r ≡ lastOf p (taken back (now (column .entry)) size size) ⌝ }
+    ensures { λ _. ⌜ now (work .exit) ≡ sets (now (work .entry)) (6 * at) (flat segments (piecesTo v p (taken back (now (column .entry)) size size))) ⌝ }
+{
+    let mut last = p;
+    let mut left = size;
+    while 0 < left {
+        let q = next_point(column, size, left, back);
+        geom::write(work, at + (size - left), piece(v, last, q));
+        last = q;
+        left -= 1;
+    }
+    last
+}
+
+// The first of the points of a column that are left.
+fn next_point(column: &[i32], size: usize, left: usize, back: bool) -> Point
+    requires { ⌜ 0 < left ⌝ }
+    requires { ⌜ left ≤ size ⌝ }
+    requires { ⌜ 3 * size ≤ length (now column) ⌝ }
+    ensures { λ r. ⌜ r ≡ pointAt (now (column .entry)) (cond back (left - 1) (size - left)) ⌝ }
+{
+    if back {
+        return mark(column, left - 1).point;
+    }
+    mark(column, size - left).point
+}
+
+// The piece of v from p to q, turned if needed.
+fn piece(v: Segment, p: Point, q: Point) -> Segment
+    requires { ⌜ Countable (v .subject) ⌝ }
+    requires { ⌜ Countable (v .clip) ⌝ }
+    ensures { λ r. ⌜ r ≡ pieceOf v p q ⌝ }
+{
+    let subject = v.subject;
+    let clip = v.clip;
+    segm::forward(Segment {
+        a: p,
+        b: q,
+        subject,
+        clip,
+    })
+}
