@@ -127,7 +127,7 @@ fn earlier(m: Mark, k: Mark) -> bool
     if of_lower(k, m) {
         return false;
     }
-    geom::before(m.point, k.point)
+    order::before(m.point, k.point)
 }
 
 // Mark number i is earlier than the one after it.
@@ -234,7 +234,7 @@ fn cut(work: &mut [i32], at: usize, v: Segment, run: &[i32], size: usize)
     let mut g: usize = 0;
     while g < size {
         let e = column_end(run, g, size);
-        let back = geom::less(next_y(run, e, size, v.b), p.y);
+        let back = order::less(next_y(run, e, size, v.b), p.y);
         p = walk(work, at + g, v, p, &run[3 * g..3 * e], e - g, back);
         g = e;
     }
@@ -252,7 +252,7 @@ fn column_end(run: &[i32], g: usize, size: usize) -> usize
     let mut p = mark(run, g).point;
     while e < size {
         let q = mark(run, e).point;
-        if geom::same(p.x, q.x) {} else {
+        if order::same(p.x, q.x) {} else {
             return e;
         }
         p = q;

@@ -3,7 +3,7 @@ use lib.IntN.{negsuc}
 use mir.Syntax.{w32}
 use mir.Val.{SFits}
 use borrow.Author.Needs.{needs}
-use Rattle.geom.proofs.Bits.{eqb-bits}
+use Rattle.order.proofs.Bits.{eqb-bits}
 use Rattle.apply.proofs.is_least.Statement.{statement}
 use Rattle.apply.proofs.is_least.Tie as tie
 

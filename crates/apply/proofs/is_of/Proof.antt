@@ -2,7 +2,7 @@
 use lib.IntN.{pos}
 use mir.Syntax.{w32}
 use mir.Val.{SFits}
-use Rattle.geom.proofs.Bits.{eqb-bits}
+use Rattle.order.proofs.Bits.{eqb-bits}
 use borrow.Author.Needs.{needs}
 use Rattle.apply.proofs.is_of.Statement.{statement}
 use Rattle.apply.proofs.is_of.Tie as tie
