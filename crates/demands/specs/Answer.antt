@@ -1,7 +1,7 @@
 -- What answer 0 says of the outcome of a run: the checks 1 to 6 passed, the looks settled, and the work and mask lists begin with the edges and their bytes.
 use mathlib.Core.Path.{_≡_, refl, sym, ap, ap₂, _∙_, subst}
 use mathlib.Core.Bool.{Bool, true, false, not, cond}
-use mathlib.Core.List.{List, [], _∷_, map}
+use mathlib.Core.List.{List, map}
 use mathlib.Core.Logic.{_≢_}
 use Prim.Native.Nat.{ℕ, zero, suc, _+_, _-_}
 use native.Mathlib.Omega.{arith}
@@ -11,29 +11,24 @@ use lib.ListN.{length, take, length-map}
 use lib.Seq.{take-append-seam}
 use Rattle.whole.specs.Kind.{rowsFrom}
 use Rattle.whole.specs.KindLaws.{rows-front}
-use Rattle.whole.specs.Sum.{All, none, also, all-map, all-both}
 use Rattle.geom.specs.declared.Segment.{Segment}
 use Rattle.geom.specs.Limits.{workRoom, markRoom, scanRoom}
-use Rattle.geom.specs.Plane.{gridSegment}
 use Rattle.geom.specs.Rows.{segments}
-use Rattle.geom.specs.Tests.{samePoint?, gridSegment?, when-true, when-false}
-use Rattle.segm.specs.MergeLaws.{neither}
 use Rattle.segm.specs.Forward.{forward, sorted}
 use Rattle.segm.specs.Merge.{merged, tooBig}
-use Rattle.segm.specs.Balance.{closed}
 use Rattle.split.specs.Look.{look, tidy}
 use Rattle.build.specs.Masks.{byteOf, bytes, crowded}
 use Rattle.checks.specs.declared.Settings.{Settings}
 use Rattle.checks.specs.declared.Fault.{Fault}
 use Rattle.checks.specs.declared.Fault.the-variants.{Sound, Short, BadSettings, OffGrid, NoLength, BadCount, Open}
-use Rattle.checks.specs.Checks.{isShort, isBad, some, isOff, isPoint, hasLeast, isOpen, faultOf, number}
+use Rattle.checks.specs.Checks.{faultOf}
+use Rattle.checks.specs.Accepted.{Accepted, accepted}
 use Rattle.overlay.specs.declared.answer.Answer.{Answer}
 use Rattle.overlay.specs.declared.answer.Answer.the-variants.{Settled, Unsettled, ScanFull}
 use Rattle.overlay.specs.Numbers.{told}
 use Rattle.overlay.specs.Looks.{Ran, settled, refused, radius, joined, lookAt, looksFrom, ran}
 use Rattle.overlay.specs.Outcome.{Lent, Outcome, zeros, cleared, finished, swept, unless, outcome}
 use Rattle.demands.specs.Chain.{cut, Chain, run-chain}
-use Rattle.demands.specs.Ordered.{Fit}
 
 -- the segments of the input
 abbrev pub given : List ℤ → Settings → List Segment
@@ -43,25 +38,10 @@ given input s = rowsFrom segments input 0 (s .n)
 abbrev pub edges : Outcome → ℕ → List Segment
 edges o m = rowsFrom segments (o .lists .work) 0 m
 
-pub record Answered (input : List ℤ) (s : Settings) (o : Outcome) (m looks : ℕ) : Type 0 where
-  pub fit : All Fit (given input s)
-  pub even : closed (given input s) ≡ true
+pub record Answered (input : List ℤ) (s : Settings) (l : Lent) (o : Outcome) (m looks : ℕ) : Type 0 where
+  pub accepted : Accepted input s (length (l .work)) (length (l .masks))
   pub chain : Chain (given input s) (edges o m) looks
   pub bytes : take m (o .lists .masks) ≡ bytes (s .fill) (s .rule) (edges o m)
-
-no-fault : (fault : Segment → Bool) (L : List Segment) → some fault L ≡ false → All (λ v. fault v ≡ false) L
-unfolding some
-no-fault fault [] e = none
-no-fault fault (v ∷ L) e = let n = neither (fault v) (some fault L) e in also (n .0) (no-fault fault L (n .1))
-
-turned-true : (b : Bool) → not b ≡ false → b ≡ true
-turned-true true h = refl
-turned-true false h = sym h
-
-fit-of : (L : List Segment) → some isOff L ≡ false → some isPoint L ≡ false → All Fit L
-fit-of L p q =
-    all-map (λ v f. (when-true (gridSegment? v) (turned-true (gridSegment v) (f .0)), when-false (samePoint? (v .a) (v .b)) (f .1)))
-    (all-both (no-fault isOff L p) (no-fault isPoint L q))
 
 -- ---- a refusal is not answer 0
 
@@ -120,23 +100,7 @@ module _ (s : Settings) (l : Lent) (m looks : ℕ) where
       go true h = absurd (not-settled (λ z. omega arith) h)
       go false h = let n : k ≡ looks = cc in record { list = L; ran = ap (settled L) n; number = cc; outcome = ap (finished s l L) n }
 
--- ---- one check after the other
-
-passed : (b : Bool) (x r : Fault) → number x ≢ 0 → cond b x r ≡ Sound → (b ≡ false) × (r ≡ Sound)
-passed true x r n e = absurd (n (ap number e))
-passed false x r n e = (refl, e)
-
-sound : (input : List ℤ) (s : Settings) (work masks : ℕ) → faultOf input s work masks ≡ Sound
-    → (some isOff (given input s) ≡ false) × (some isPoint (given input s) ≡ false) × (isOpen (given input s) ≡ false)
-unfolding faultOf
-sound input s work masks e =
-    let p1 = passed (isShort (s .n) (length input) work masks) Short _ (λ z. omega arith) e in
-    let p2 = passed (isBad s) BadSettings _ (λ z. omega arith) (p1 .1) in
-    let p3 = passed (some isOff (given input s)) OffGrid _ (λ z. omega arith) (p2 .1) in
-    let p4 = passed (some isPoint (given input s)) NoLength _ (λ z. omega arith) (p3 .1) in
-    let p5 = passed (some hasLeast (given input s)) BadCount _ (λ z. omega arith) (p4 .1) in
-    let p6 = passed (isOpen (given input s)) Open Sound (λ z. omega arith) (p5 .1) in
-    (p3 .0, p4 .0, p6 .0)
+-- ---- the outcome
 
 module _ (input : List ℤ) (s : Settings) (l : Lent) (m looks : ℕ) where
   abbrev result : Ran
@@ -152,22 +116,20 @@ module _ (input : List ℤ) (s : Settings) (l : Lent) (m looks : ℕ) where
       let k : m ≡ length (bytes (s .fill) (s .rule) (w .list)) = sym (w .number) ∙ sym (length-map (w .list) (byteOf (s .fill) (s .rule) (w .list))) in
       ap₂ (λ x n. take n (x .lists .masks)) (w .outcome) k ∙ take-append-seam (bytes (s .fill) (s .rule) (w .list)) _
 
-  given-by : (o : Outcome) → All Fit (given input s) → closed (given input s) ≡ true → Swept s l result o m looks → Answered input s o m looks
-  given-by o f c w =
+  given-by : (o : Outcome) → Accepted input s (length (l .work)) (length (l .masks)) → Swept s l result o m looks → Answered input s l o m looks
+  given-by o a w =
       let e = list-given o w in
       record {
-        fit = f;
-        even = c;
+        accepted = a;
         chain = subst (λ K. Chain (given input s) K looks) (sym e) (run-chain _ _ (s .budget) (given input s) (w .list) looks (w .ran));
         bytes = bytes-given o w ∙ ap (bytes (s .fill) (s .rule)) (sym e);
       }
 
   unless-sound : (f : Fault) → faultOf input s (length (l .work)) (length (l .masks)) ≡ f → unless f l (swept s l result) .answer ≡ Settled m looks
-      → Answered input s (unless f l (swept s l result)) m looks
+      → Answered input s l (unless f l (swept s l result)) m looks
   unfolding unless
   unless-sound Sound p e =
-      let h = sound input s (length (l .work)) (length (l .masks)) p in
-      given-by (swept s l result) (fit-of (given input s) (h .0) (h .1)) (turned-true (closed (given input s)) (h .2)) (swept-settled s l m looks (ran-proper _ _ (s .budget) (given input s)) e)
+      given-by (swept s l result) (accepted input s (length (l .work)) (length (l .masks)) p) (swept-settled s l m looks (ran-proper _ _ (s .budget) (given input s)) e)
   unless-sound Short p e = absurd (not-settled (λ z. omega arith) e)
   unless-sound BadSettings p e = absurd (not-settled (λ z. omega arith) e)
   unless-sound OffGrid p e = absurd (not-settled (λ z. omega arith) e)
@@ -176,6 +138,6 @@ module _ (input : List ℤ) (s : Settings) (l : Lent) (m looks : ℕ) where
   unless-sound Open p e = absurd (not-settled (λ z. omega arith) e)
 
   -- THE THEOREM
-  pub answered : outcome input s l .answer ≡ Settled m looks → Answered input s (outcome input s l) m looks
+  pub answered : outcome input s l .answer ≡ Settled m looks → Answered input s l (outcome input s l) m looks
   unfolding outcome
   answered e = unless-sound (faultOf input s (length (l .work)) (length (l .masks))) refl e

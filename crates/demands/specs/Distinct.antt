@@ -16,7 +16,7 @@ module _ {A : Type 0} {le : A → A → Bool} (o : Total le) (same : A → A →
   After p x = (le p x ≡ true) × (p ≢ x)
 
   abbrev Strict : A → List A → Type 0
-  Strict p xs = All (After p) xs × Pairs _≢_ xs
+  Strict p xs = All (After p) xs × Pairs After xs
 
   after-same : {p q x : A} → p ≡ q → After q x → After p x
   after-same {x = x} e m = (subst (λ r. le r x ≡ true) (sym e) (m .0), λ z. m .1 (sym e ∙ z))
@@ -31,12 +31,20 @@ module _ {A : Type 0} {le : A → A → Bool} (o : Total le) (same : A → A →
     where
       go : {b : Bool} → Decides (p ≡ q) b → Strict q (pass (differing same) q qs) → Strict p (cond b [] (q ∷ []) ++ pass (differing same) q qs)
       go (yes e) h = (all-map (λ x m. after-same e m) (h .0), h .1)
-      go (no n) h = (also (l .0, n) (all-map (λ x m. after-trans (l .0, n) m) (h .0)), pair (all-map (λ x m. m .1) (h .0)) (h .1))
+      go (no n) h = (also (l .0, n) (all-map (λ x m. after-trans (l .0, n) m) (h .0)), pair (h .0) (h .1))
+
+  -- each stands before all later ones, and is none of them
+  pub distinct-strict : (xs : List A) → Sorted le xs → Pairs (λ p x. (le p x ≡ true) × (p ≢ x)) (distinct same xs)
+  unfolding distinct
+  distinct-strict [] s = no-pair
+  distinct-strict (q ∷ qs) s = let h = pass-strict q qs (s .0) (s .1) in pair (h .0) (h .1)
 
   pub distinct-apart : (xs : List A) → Sorted le xs → Pairs _≢_ (distinct same xs)
-  unfolding distinct
-  distinct-apart [] s = no-pair
-  distinct-apart (q ∷ qs) s = let h = pass-strict q qs (s .0) (s .1) in pair (all-map (λ x m. m .1) (h .0)) (h .1)
+  distinct-apart xs s = only (distinct-strict xs s)
+    where
+      only : {ys : List A} → Pairs After ys → Pairs _≢_ ys
+      only no-pair = no-pair
+      only (pair h k) = pair (all-map (λ x m. m .1) h) (only k)
 
 module _ {A : Type 0} {P : A → Type 0} (same : A → A → Bool) where
   pass-all : (p : A) {qs : List A} → All P qs → All P (pass (differing same) p qs)

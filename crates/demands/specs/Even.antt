@@ -1,16 +1,13 @@
 -- Balanced (demand 3): what starts at a point counts as much as what ends there, for either side, in every list that the run makes of a closed one. Turning
 -- forward, sorting, merging and splitting each keep the boundary of a list (crate laws).
-use mathlib.Core.Path.{_≡_, sym, _∙_}
-use mathlib.Core.Bool.{true}
+use mathlib.Core.Path.{sym, _∙_}
 use mathlib.Core.List.{List, map}
 use Rattle.whole.specs.Sum.{All, none, also, all-map}
-use Rattle.whole.specs.Test.{of-true, and-l, and-r}
 use Rattle.geom.specs.declared.Segment.{Segment}
-use Rattle.geom.specs.Plane.{Side, subject, clip, count}
+use Rattle.geom.specs.Plane.{Side, count}
 use Rattle.segm.specs.Forward.{forward, sorted}
 use Rattle.segm.specs.Merge.{merged}
-use Rattle.segm.specs.Balance.{Balanced, balanced, closed}
-use Rattle.segm.specs.BalanceLaws.{balanced-test}
+use Rattle.segm.specs.Balance.{Balanced, closed}
 use Rattle.split.specs.Look.{look, tidy}
 use Rattle.laws.specs.Steps.{keeps}
 use Rattle.laws.specs.Prepared.{∂-forward, ∂-sorted, ∂-merging}
@@ -21,12 +18,6 @@ use Rattle.demands.specs.Chain.{start, cut, next, Looks, empty, done, ag
 -- on both sides
 abbrev pub Even : List Segment → Type 0
 Even L = (d : Side) → Balanced (count d) L
-
--- a list that is not refused by 6
-pub closed-even : (L : List Segment) → closed L ≡ true → Even L
-unfolding closed
-closed-even L e subject = balanced-test (count subject) L .0 (of-true (and-l (balanced (count subject) L) (balanced (count clip) L) e))
-closed-even L e clip = balanced-test (count clip) L .0 (of-true (and-r (balanced (count subject) L) (balanced (count clip) L) e))
 
 -- every list of a run of L: turned, before each look, after each split, after the merge that follows, and at the end
 pub record AllEven (L : List Segment) (Ls : List (List Segment)) (K : List Segment) : Type 0 where

@@ -39,14 +39,14 @@ Good t = GridSegment t × Before (t .a) (t .b)
 
 -- ---- tidy marks
 
-mark-order : Total markOrder
+pub mark-order : Total markOrder
 mark-order = by-numbers marks ltZ whole
 
 tidy-apart : (ms : List Mark) → Pairs _≢_ (tidy ms)
 unfolding tidy
 tidy-apart ms = distinct-apart mark-order sameMark sameMark? (sort markOrder ms) (sort-sorted mark-order ms)
 
-tidy-all : {P : Mark → Type 0} {ms : List Mark} → All P ms → All P (tidy ms)
+pub tidy-all : {P : Mark → Type 0} {ms : List Mark} → All P ms → All P (tidy ms)
 unfolding tidy
 tidy-all h = distinct-all sameMark (all-sort markOrder h)
 

@@ -10,7 +10,7 @@ use lib.ListN.{getD}
 use lib.Signed.{_<ℤ_}
 use Rattle.whole.specs.Order.{zz}
 use Rattle.whole.specs.Kind.{rowAt}
-use Rattle.whole.specs.Sum.{All}
+use Rattle.whole.specs.Sum.{All, all-both}
 use Rattle.geom.specs.declared.Point.{Point}
 use Rattle.geom.specs.declared.Segment.{Segment}
 use Rattle.geom.specs.Plane.{Side, Before, by-x, by-y, count}
@@ -34,7 +34,7 @@ use Rattle.checks.specs.declared.Settings.{Settings}
 use Rattle.overlay.specs.declared.answer.Answer.the-variants as answer
 use Rattle.overlay.specs.Outcome.{Lent, Outcome, outcome}
 use Rattle.demands.specs.Chain.{Chain, one-chain}
-use Rattle.demands.specs.Even.{Even, closed-even, AllEven, all-even}
+use Rattle.demands.specs.Even.{Even, AllEven, all-even}
 use Rattle.demands.specs.Ordered.{Ordered, all-ordered}
 use Rattle.demands.specs.Settled.{looks-settled, meet-at-ends}
 use Rattle.demands.specs.Answer.{given, edges, Answered, answered}
@@ -60,17 +60,17 @@ module _ (input : List ℤ) (s : Settings) (l : Lent) (m looks : ℕ) (zero : ou
   abbrev K : List Segment
   K = edges o m
 
-  facts : Answered input s o m looks
+  facts : Answered input s l o m looks
   facts = answered input s l m looks zero
 
   ordered : Ordered K
-  ordered = all-ordered (facts .chain .chain) (facts .fit) .1
+  ordered = all-ordered (facts .chain .chain) (all-both (facts .accepted .grid) (facts .accepted .long)) .1
 
   apart : Settled K
   apart = looks-settled (facts .chain .chain) ordered
 
   even : Even K
-  even = all-even (facts .chain .chain) (closed-even (given input s) (facts .even)) .final
+  even = all-even (facts .chain .chain) (facts .accepted .balanced) .final
 
   -- ---- demand 1
 
@@ -93,7 +93,7 @@ module _ (input : List ℤ) (s : Settings) (l : Lent) (m looks : ℕ) (zero : ou
 
   -- every one of those lists is on the grid, forward and strictly in order
   pub lists-in-order : All Ordered (chain-of-looks .lists)
-  lists-in-order = all-ordered (chain-of-looks .chain) (facts .fit) .0
+  lists-in-order = all-ordered (chain-of-looks .chain) (all-both (facts .accepted .grid) (facts .accepted .long)) .0
 
   -- and there is no other
   pub no-other-chain : (J : List Segment) (n : ℕ) → Chain (given input s) J n → (J ≡ K) × (n ≡ looks)
@@ -140,7 +140,7 @@ module _ (input : List ℤ) (s : Settings) (l : Lent) (m looks : ℕ) (zero : ou
   -- "Input and answer", 6: at every point, for either side, what starts counts as much as what ends: in the list turned, before each look, after each split and each
   -- merge, and at the end
   pub balanced : AllEven (given input s) (chain-of-looks .lists) K
-  balanced = all-even (chain-of-looks .chain) (closed-even (given input s) (facts .even))
+  balanced = all-even (chain-of-looks .chain) (facts .accepted .balanced)
 
   -- "Keeping": so do the signs of the edges, under every overlay rule
   pub signs : (rule : ℕ) → Balanced (λ e. sign rule (maskOf (s .fill) K e)) K
