@@ -1,5 +1,5 @@
--- Pieces one after the other, and the list with their rows: pieces through some points come before those through the points after them
--- (`pieces-through`); a row before others (`row-first`), rows before rows that already stand (`stores-join`).
+-- Pieces one after the other, and the list with their rows: pieces through some points come before those through the points after them (`pieces-through`);
+-- rows are written before or after rows that stand (`rows-before`, `rows-after`); one piece, or one column, is one step of the way along the chain.
 use mathlib.Core.Path.{_≡_, refl, sym, ap, _∙_}
 use mathlib.Core.Bool.{Bool, cond}
 use mathlib.Core.List.{List, [], _∷_, _++_, reverse}

@@ -1,4 +1,5 @@
--- The runs of the marks of each segment.
+-- The runs of the marks of each segment. `Edge` says where the marks of the segments from number i on start. Marks in order never go back to a lower segment, so
+-- what lies between two edges is the run of one segment, and holds its marks and no others (`run-points`).
 use mathlib.Core.Path.{_≡_, refl, sym, ap, ap₂, _∙_}
 use mathlib.Core.Bool.{Bool, true, false, cond, _&&_, true≢false}
 use mathlib.Core.List.{List, [], _∷_, _++_, map, append-nil}
