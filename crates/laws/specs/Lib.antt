@@ -19,7 +19,6 @@
 --   Upright     the two sides of an upright edge (Req 13, second half)
 --   Telescope   rises of any g over a strict total order
 --   Law         the sign law
---   Live        a sweep need only look at what is live
 -- Rays:
 --   Foot        the foot of a point on an edge
 --   Beside      the count beside an edge that is not upright is its top or its bottom
@@ -48,7 +47,6 @@ pub mod Fan
 pub mod Upright
 pub mod Telescope
 pub mod Law
-pub mod Live
 pub mod Foot
 pub mod Beside
 pub mod Scale

@@ -27,7 +27,7 @@ use Rattle.laws.specs.Settled.{In, Settled}
 use Rattle.laws.specs.Along.{both-ends}
 use Rattle.laws.specs.Upright.{left-is-top}
 use Rattle.laws.specs.Law.{sign, sign-law, signOfSides, sides-law}
-use Rattle.laws.specs.Live.{sweep}
+use Rattle.build.specs.Live.{sweep}
 use Rattle.laws.specs.Beside.{Beside, ray-over, ray-under}
 use Rattle.laws.specs.Level.{Level}
 use Rattle.laws.specs.BesideUpright.{ray-right, ray-left}
