@@ -3,10 +3,10 @@ use mathlib.Core.Path.{_≡_, refl, sym, ap, _∙_, subst}
 use mathlib.Core.Bool.{Bool, true, false, cond}
 use mathlib.Core.List.{List, [], _∷_, map}
 use mathlib.Core.Logic.{_≢_}
-use Prim.Native.Nat.{ℕ, zero, suc, _+_, _-_}
+use Prim.Native.Nat.{ℕ, zero, suc, _+_, _-_, _≤_}
 use native.Mathlib.Omega.{arith}
 use lib.Dec.{ltb, eqb}
-use borrow.Author.Tests.{eqb-true}
+use borrow.Author.Tests.{eqb-true, ltb-false}
 use lib.ListN.{length}
 use Rattle.geom.specs.declared.Segment.{Segment}
 use Rattle.segm.specs.Forward.{forward, sorted}
@@ -52,11 +52,17 @@ Made L K made looks = (Ls : List (List Segment)) × Looks L Ls K × (made + leng
 refusal : {B : Type 0} {a : Answer} {K : List Segment} {looks : ℕ} → refused a ≡ settled K looks → B
 refusal e = let z : _≡_ {A = ℕ} 0 1 = cc in absurd (omega arith)
 
+-- a look that yields marks passes 7, 8 and 9
+pub record Passes (room work : ℕ) (L : List Segment) : Type 0 where
+  pub marks : length (look radius L) ≤ room
+  pub pieces : length L + length (tidy (look radius L)) ≤ work
+  pub totals : tooBig (sorted (cut L)) ≡ false
+
 -- what a look at L comes to, if it comes to K: L itself, or what follows with the next list
-data Step (made : ℕ) (L : List Segment) (f : List Segment → Ran) (K : List Segment) (looks : ℕ) : Type 0 where
-  no-look : L ≡ [] → L ≡ K → made ≡ looks → Step made L f K looks
-  no-mark : L ≢ [] → look radius L ≡ [] → L ≡ K → suc made ≡ looks → Step made L f K looks
-  marks : look radius L ≢ [] → f (next L) ≡ settled K looks → Step made L f K looks
+pub data Step (room work : ℕ) (final : Bool) (made : ℕ) (L : List Segment) (f : List Segment → Ran) (K : List Segment) (looks : ℕ) : Type 0 where
+  no-look : L ≡ [] → L ≡ K → made ≡ looks → Step room work final made L f K looks
+  no-mark : L ≢ [] → look radius L ≡ [] → L ≡ K → suc made ≡ looks → Step room work final made L f K looks
+  some-marks : look radius L ≢ [] → final ≡ false → Passes room work L → f (next L) ≡ settled K looks → Step room work final made L f K looks
 
 nothing : {A : Type 0} (L : List A) → eqb (length L) 0 ≡ true → L ≡ []
 nothing [] e = refl
@@ -65,37 +71,39 @@ nothing (t ∷ L) e = let z = eqb-true (length (t ∷ L)) 0 e in absurd (omega a
 something : {A : Type 0} (L : List A) → eqb (length L) 0 ≡ false → L ≢ []
 something L e h = clash (ap (λ K. eqb (length K) 0) h) e
 
-joined-step : (K J : List Segment) (f : List Segment → Ran) (looks : ℕ) → joined K f ≡ settled J looks → f (merged (sorted K)) ≡ settled J looks
+pub joined-step : (K J : List Segment) (f : List Segment → Ran) (looks : ℕ) → joined K f ≡ settled J looks → (tooBig (sorted K) ≡ false) × (f (merged (sorted K)) ≡ settled J looks)
 unfolding joined
 joined-step K J f looks e = go (tooBig (sorted K)) e
   where
-    go : (b : Bool) → cond b (refused TooBig) (f (merged (sorted K))) ≡ settled J looks → f (merged (sorted K)) ≡ settled J looks
+    go : (b : Bool) → cond b (refused TooBig) (f (merged (sorted K))) ≡ settled J looks → (b ≡ false) × (f (merged (sorted K)) ≡ settled J looks)
     go true h = refusal h
-    go false h = h
+    go false h = (refl, h)
 
-step : (room work : ℕ) (final : Bool) (made : ℕ) (L : List Segment) (f : List Segment → Ran) (K : List Segment) (looks : ℕ)
-    → lookAt room work final made L f ≡ settled K looks → Step made L f K looks
+pub step : (room work : ℕ) (final : Bool) (made : ℕ) (L : List Segment) (f : List Segment → Ran) (K : List Segment) (looks : ℕ)
+    → lookAt room work final made L f ≡ settled K looks → Step room work final made L f K looks
 unfolding lookAt
 step room work final made L f K looks e =
-    go (eqb (length L) 0) (ltb room (length ms)) (eqb (length ms) 0) final (ltb work (length L + length (tidy ms))) refl refl e
+    go (eqb (length L) 0) (ltb room (length ms)) (eqb (length ms) 0) final (ltb work (length L + length (tidy ms))) refl refl refl refl e
   where
     ms : List Mark
     ms = look radius L
 
-    go : (b c d g h : Bool) → eqb (length L) 0 ≡ b → eqb (length ms) 0 ≡ d
+    go : (b c d g h : Bool) → eqb (length L) 0 ≡ b → ltb room (length ms) ≡ c → eqb (length ms) 0 ≡ d → ltb work (length L + length (tidy ms)) ≡ h
         → cond b (settled L made) (cond c (refused MarksFull) (cond d (settled L (suc made)) (cond g (refused Unsettled) (cond h (refused WorkFull) (joined (cut L) f))))) ≡ settled K looks
-        → Step made L f K looks
-    go true c d g h p q r = no-look (nothing L p) (cc) (cc)
-    go false true d g h p q r = refusal r
-    go false false true g h p q r = no-mark (something L p) (nothing ms q) (cc) (cc)
-    go false false false true h p q r = refusal r
-    go false false false false true p q r = refusal r
-    go false false false false false p q r = marks (something ms q) (joined-step (cut L) K f looks r)
+        → Step room work g made L f K looks
+    go true c d g h p q r t e = no-look (nothing L p) (cc) (cc)
+    go false true d g h p q r t e = refusal e
+    go false false true g h p q r t e = no-mark (something L p) (nothing ms r) (cc) (cc)
+    go false false false true h p q r t e = refusal e
+    go false false false false true p q r t e = refusal e
+    go false false false false false p q r t e =
+        let j = joined-step (cut L) K f looks e in
+        some-marks (something ms r) refl (record { marks = ltb-false room (length ms) q; pieces = ltb-false work (length L + length (tidy ms)) t; totals = j .0 }) (j .1)
 
-add-look : {L K : List Segment} {f : List Segment → Ran} {made looks : ℕ} → Step made L f K looks → (f (next L) ≡ settled K looks → Made (next L) K (suc made) looks) → Made L K made looks
-add-look {L} (no-look h k m) more = ([], subst (Looks L []) k (subst (λ M. Looks M [] M) (sym h) empty), omega (arith, m))
-add-look {L} (no-mark n h k m) more = (L ∷ [], subst (Looks L (L ∷ [])) k (done n h), omega (arith, m))
-add-look {L} (marks n e) more = let m = more e in (L ∷ m .0, again n (m .1), omega (arith, m .2))
+add-look : {room work : ℕ} {final : Bool} {L K : List Segment} {f : List Segment → Ran} {made looks : ℕ} → Step room work final made L f K looks → (f (next L) ≡ settled K looks → Made (next L) K (suc made) looks) → Made L K made looks
+add-look {L = L} (no-look h k m) more = ([], subst (Looks L []) k (subst (λ M. Looks M [] M) (sym h) empty), omega (arith, m))
+add-look {L = L} (no-mark n h k m) more = (L ∷ [], subst (Looks L (L ∷ [])) k (done n h), omega (arith, m))
+add-look {L = L} (some-marks n g p e) more = let m = more e in (L ∷ m .0, again n (m .1), omega (arith, m .2))
 
 module _ (room work : ℕ) where
   made-by : (left made : ℕ) (L K : List Segment) (looks : ℕ) → looksFrom room work left made L ≡ settled K looks → Made L K made looks
@@ -108,11 +116,11 @@ module _ (room work : ℕ) where
   pub run-chain : (budget : ℕ) (L K : List Segment) (looks : ℕ) → ran room work budget L ≡ settled K looks → Chain L K looks
   unfolding ran
   run-chain budget L K looks e =
-      let m = made-by (budget - 1) 0 (start L) K looks (joined-step (map forward L) K (looksFrom room work (budget - 1) 0) looks e) in
+      let m = made-by (budget - 1) 0 (start L) K looks (joined-step (map forward L) K (looksFrom room work (budget - 1) 0) looks e .1) in
       record { lists = m .0; chain = m .1; number = omega (arith, m .2) }
 
 -- ---- and there is one: the list of the first look settles those that follow
-no-marks : look radius [] ≡ []
+pub no-marks : look radius [] ≡ []
 unfolding lookFrom
 no-marks = refl
 

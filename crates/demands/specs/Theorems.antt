@@ -1,10 +1,10 @@
 -- The three demands, of every run that answers 0. `outcome input s l` is what document 01 says that a run returns and leaves in the lent lists l; m and looks are the
 -- numbers that come with answer 0; an edge is one of the first m segments of the work list. Each theorem names its place in document 01.
 use mathlib.Core.Path.{_≡_, sym, ap, _∙_}
-use mathlib.Core.Bool.{true}
-use mathlib.Core.List.{List}
+use mathlib.Core.Bool.{true, false}
+use mathlib.Core.List.{List, map}
 use mathlib.Core.Logic.{_↔_, _≢_}
-use Prim.Native.Nat.{ℕ, _%_, _<_}
+use Prim.Native.Nat.{ℕ, _-_, _%_, _<_}
 use lib.IntN.{ℤ, pos, _*ℤ_}
 use lib.ListN.{getD}
 use lib.Signed.{_<ℤ_}
@@ -16,6 +16,8 @@ use Rattle.geom.specs.declared.Segment.{Segment}
 use Rattle.geom.specs.Plane.{Side, Before, by-x, by-y, count}
 use Rattle.geom.specs.Off.{Off, On, EndOf, cross}
 use Rattle.geom.specs.Rows.{segments}
+use Rattle.segm.specs.Forward.{forward as turned-forward, sorted}
+use Rattle.segm.specs.Merge.{tooBig}
 use Rattle.segm.specs.Order.{EndsBefore}
 use Rattle.segm.specs.Balance.{Balanced}
 use Rattle.build.specs.Inside.{inside}
@@ -32,8 +34,10 @@ use Rattle.laws.specs.Level.{Level}
 use Rattle.laws.specs.BesideUpright.{ray-right, ray-left}
 use Rattle.checks.specs.declared.Settings.{Settings}
 use Rattle.overlay.specs.declared.answer.Answer.the-variants as answer
+use Rattle.overlay.specs.Looks.{settled as settled-as, ran}
 use Rattle.overlay.specs.Outcome.{Lent, Outcome, outcome}
-use Rattle.demands.specs.Chain.{Chain, one-chain}
+use Rattle.demands.specs.Chain.{start, Chain, one-chain}
+use Rattle.demands.specs.Exactly.{Allowed, settles-exactly}
 use Rattle.demands.specs.Even.{Even, AllEven, all-even}
 use Rattle.demands.specs.Ordered.{Ordered, all-ordered}
 use Rattle.demands.specs.Settled.{looks-settled, meet-at-ends}
@@ -47,6 +51,12 @@ edge o k = rowAt segments (o .lists .work) k
 
 abbrev pub byte : Outcome → ℕ → ℕ
 byte o k = getD (o .lists .masks) k 0
+
+-- "Input and answer", 7 to 10: the looks settle exactly if the totals of the turned list fit (9) and, look after look, marks and pieces have room (7, 8), totals fit (9) and
+-- a look is left (10)
+pub looks-settle : (room work budget : ℕ) (L J : List Segment) (n : ℕ)
+    → (ran room work budget L ≡ settled-as J n) ↔ (Chain L J n × (tooBig (sorted (map turned-forward L)) ≡ false) × Allowed room work (budget - 1) (start L))
+looks-settle = settles-exactly
 
 -- an upright edge that runs forward rises
 rises : {p q : Point} → Before p q → p .x .0 ≡ q .x .0 → p .y .0 <ℤ q .y .0
