@@ -100,7 +100,8 @@ step room work final made L f K looks e =
         let j = joined-step (cut L) K f looks e in
         some-marks (something ms r) refl (record { marks = ltb-false room (length ms) q; pieces = ltb-false work (length L + length (tidy ms)) t; totals = j .0 }) (j .1)
 
-add-look : {room work : ℕ} {final : Bool} {L K : List Segment} {f : List Segment → Ran} {made looks : ℕ} → Step room work final made L f K looks → (f (next L) ≡ settled K looks → Made (next L) K (suc made) looks) → Made L K made looks
+add-look : {room work : ℕ} {final : Bool} {L K : List Segment} {f : List Segment → Ran} {made looks : ℕ} → Step room work final made L f K looks
+    → (f (next L) ≡ settled K looks → Made (next L) K (suc made) looks) → Made L K made looks
 add-look {L = L} (no-look h k m) more = ([], subst (Looks L []) k (subst (λ M. Looks M [] M) (sym h) empty), omega (arith, m))
 add-look {L = L} (no-mark n h k m) more = (L ∷ [], subst (Looks L (L ∷ [])) k (done n h), omega (arith, m))
 add-look {L = L} (some-marks n g p e) more = let m = more e in (L ∷ m .0, again n (m .1), omega (arith, m .2))

@@ -48,7 +48,8 @@ module _ (room work made : ℕ) (f : List Segment → Ran) (L : List Segment) wh
       rw (count-some L (marks-of-some n), le-ltb room (length ms) (p .marks), count-some ms n, le-ltb work (length L + length (tidy ms)) (p .pieces), p .totals)
 
   -- what a look with marks must have passed
-  passed : (final : Bool) {K : List Segment} {looks : ℕ} → look radius L ≢ [] → lookAt room work final made L f ≡ settled K looks → (final ≡ false) × Passes room work L × (f (next L) ≡ settled K looks)
+  passed : (final : Bool) {K : List Segment} {looks : ℕ} → look radius L ≢ [] → lookAt room work final made L f ≡ settled K looks
+      → (final ≡ false) × Passes room work L × (f (next L) ≡ settled K looks)
   passed final {K} {looks} n e = go (step room work final made L f K looks e)
     where
       go : Step room work final made L f K looks → (final ≡ false) × Passes room work L × (f (next L) ≡ settled K looks)

@@ -1,5 +1,6 @@
 -- The three demands, of every run that answers 0. `outcome input s l` is what document 01 says that a run returns and leaves in the lent lists l; m and looks are the
--- numbers that come with answer 0; an edge is one of the first m segments of the work list. Each theorem names its place in document 01.
+-- numbers that come with answer 0, as they do in document 01's printed run (overlay/specs/Cases.antt); an edge is one of the first m segments of the work list. Each
+-- theorem names its place in document 01.
 use mathlib.Core.Path.{_≡_, sym, ap, _∙_}
 use mathlib.Core.Bool.{true, false}
 use mathlib.Core.List.{List, map}
