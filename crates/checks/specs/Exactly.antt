@@ -104,7 +104,7 @@ module _ {A B C D E F : Type 0} where
 
 -- ---- each test decides its sentence
 
-below? : (m n : ℕ) → Decides (m < n) (ltb m n)
+pub below? : (m n : ℕ) → Decides (m < n) (ltb m n)
 below? m n = go (ltb m n) refl
   where
     go : (t : Bool) → ltb m n ≡ t → Decides (m < n) t
@@ -126,7 +126,7 @@ bad? : (s : Settings) → Decides (OutOfRange s) (isBad s)
 unfolding isBad
 bad? s = or (or (below? 3 (s .fill)) (below? 6 (s .rule))) (or (equal? (s .budget) 0) (below? 64 (s .budget)))
 
-has? : {P : Segment → Type 0} {fault : Segment → Bool} → ((v : Segment) → Decides (P v) (fault v)) → (L : List Segment) → Decides (Has P L) (some fault L)
+pub has? : {P : Segment → Type 0} {fault : Segment → Bool} → ((v : Segment) → Decides (P v) (fault v)) → (L : List Segment) → Decides (Has P L) (some fault L)
 unfolding some
 has? d [] = no (λ h. all-in {P = λ v. ⊥} (h .1) none)
 has? {P} d (v ∷ L) = said to from (or (d v) (has? d L))

@@ -2,4 +2,5 @@
 pub mod Numbers
 pub mod Looks
 pub mod Outcome
+pub mod Table
 pub mod Cases
