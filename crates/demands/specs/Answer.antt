@@ -24,8 +24,8 @@ use Rattle.checks.specs.declared.Fault.the-variants.{Sound, Short, BadSettings,
 use Rattle.checks.specs.Checks.{faultOf}
 use Rattle.checks.specs.Accepted.{Accepted, accepted}
 use Rattle.overlay.specs.declared.answer.Answer.{Answer}
-use Rattle.overlay.specs.declared.answer.Answer.the-variants.{Settled, Unsettled, ScanFull}
-use Rattle.overlay.specs.Numbers.{told}
+use Rattle.overlay.specs.declared.answer.Answer.the-variants.{Unsettled, ScanFull}
+use Rattle.overlay.specs.Numbers.{told, answer0}
 use Rattle.overlay.specs.Looks.{Ran, settled, refused, radius, joined, lookAt, looksFrom, ran}
 use Rattle.overlay.specs.Outcome.{Lent, Outcome, zeros, cleared, finished, swept, unless, outcome}
 use Rattle.demands.specs.Chain.{cut, Chain, run-chain}
@@ -47,9 +47,6 @@ pub record Answered (input : List ℤ) (s : Settings) (l : Lent) (o : Outcome) (
 
 abbrev Refusal : Answer → Type 0
 Refusal a = told a .number ≢ 0
-
-not-settled : {a : Answer} {m looks : ℕ} → Refusal a → a ≢ Settled m looks
-not-settled n e = n (ap (λ x. told x .number) e)
 
 data Proper : Ran → Type 0 where
   list : {L : List Segment} {looks : ℕ} → Proper (settled L looks)
@@ -91,14 +88,14 @@ record Swept (s : Settings) (l : Lent) (r : Ran) (o : Outcome) (m looks : ℕ) :
   pub outcome : o ≡ finished s l list looks
 
 module _ (s : Settings) (l : Lent) (m looks : ℕ) where
-  swept-settled : {r : Ran} → Proper r → swept s l r .answer ≡ Settled m looks → Swept s l r (swept s l r) m looks
+  swept-settled : {r : Ran} → Proper r → swept s l r .answer ≡ answer0 m looks → Swept s l r (swept s l r) m looks
   unfolding swept finished
-  swept-settled (refusal n) e = absurd (not-settled n e)
+  swept-settled (refusal n) e = absurd (n (ap (λ t. t .number) e))
   swept-settled (list {L = L} {looks = k}) e = go (crowded (scanRoom (length (l .scan))) L) e
     where
-      go : (b : Bool) → cond b (cleared l ScanFull) (finished s l L k) .answer ≡ Settled m looks → Swept s l (settled L k) (cond b (cleared l ScanFull) (finished s l L k)) m looks
-      go true h = absurd (not-settled (λ z. omega arith) h)
-      go false h = let n : k ≡ looks = cc in record { list = L; ran = ap (settled L) n; number = cc; outcome = ap (finished s l L) n }
+      go : (b : Bool) → cond b (cleared l ScanFull) (finished s l L k) .answer ≡ answer0 m looks → Swept s l (settled L k) (cond b (cleared l ScanFull) (finished s l L k)) m looks
+      go true h = absurd (let z = ap (λ t. t .number) h in omega arith)
+      go false h = let n = ap (λ t. t .looks) h in record { list = L; ran = ap (settled L) n; number = ap (λ t. t .segments) h; outcome = ap (finished s l L) n }
 
 -- ---- the outcome
 
@@ -125,19 +122,19 @@ module _ (input : List ℤ) (s : Settings) (l : Lent) (m looks : ℕ) where
         bytes = bytes-given o w ∙ ap (bytes (s .fill) (s .rule)) (sym e);
       }
 
-  unless-sound : (f : Fault) → faultOf input s (length (l .work)) (length (l .masks)) ≡ f → unless f l (swept s l result) .answer ≡ Settled m looks
+  unless-sound : (f : Fault) → faultOf input s (length (l .work)) (length (l .masks)) ≡ f → unless f l (swept s l result) .answer ≡ answer0 m looks
       → Answered input s l (unless f l (swept s l result)) m looks
   unfolding unless
   unless-sound Sound p e =
       given-by (swept s l result) (accepted input s (length (l .work)) (length (l .masks)) p) (swept-settled s l m looks (ran-proper _ _ (s .budget) (given input s)) e)
-  unless-sound Short p e = absurd (not-settled (λ z. omega arith) e)
-  unless-sound BadSettings p e = absurd (not-settled (λ z. omega arith) e)
-  unless-sound OffGrid p e = absurd (not-settled (λ z. omega arith) e)
-  unless-sound NoLength p e = absurd (not-settled (λ z. omega arith) e)
-  unless-sound BadCount p e = absurd (not-settled (λ z. omega arith) e)
-  unless-sound Open p e = absurd (not-settled (λ z. omega arith) e)
+  unless-sound Short p e = absurd (let z = ap (λ t. t .number) e in omega arith)
+  unless-sound BadSettings p e = absurd (let z = ap (λ t. t .number) e in omega arith)
+  unless-sound OffGrid p e = absurd (let z = ap (λ t. t .number) e in omega arith)
+  unless-sound NoLength p e = absurd (let z = ap (λ t. t .number) e in omega arith)
+  unless-sound BadCount p e = absurd (let z = ap (λ t. t .number) e in omega arith)
+  unless-sound Open p e = absurd (let z = ap (λ t. t .number) e in omega arith)
 
   -- THE THEOREM
-  pub answered : outcome input s l .answer ≡ Settled m looks → Answered input s l (outcome input s l) m looks
+  pub answered : outcome input s l .answer ≡ answer0 m looks → Answered input s l (outcome input s l) m looks
   unfolding outcome
   answered e = unless-sound (faultOf input s (length (l .work)) (length (l .masks))) refl e

@@ -34,7 +34,7 @@ use Rattle.laws.specs.Beside.{Beside, ray-over, ray-under}
 use Rattle.laws.specs.Level.{Level}
 use Rattle.laws.specs.BesideUpright.{ray-right, ray-left}
 use Rattle.checks.specs.declared.Settings.{Settings}
-use Rattle.overlay.specs.declared.answer.Answer.the-variants as answer
+use Rattle.overlay.specs.Numbers.{answer0}
 use Rattle.overlay.specs.Looks.{settled as settled-as, ran}
 use Rattle.overlay.specs.Outcome.{Lent, Outcome, outcome}
 use Rattle.demands.specs.Chain.{start, Chain, one-chain}
@@ -64,7 +64,7 @@ rises : {p q : Point} → Before p q → p .x .0 ≡ q .x .0 → p .y .0 <ℤ q 
 rises (by-x h) e = absurd (omega zz)
 rises (by-y e h) f = h
 
-module _ (input : List ℤ) (s : Settings) (l : Lent) (m looks : ℕ) (zero : outcome input s l .answer ≡ answer.Settled m looks) where
+module _ (input : List ℤ) (s : Settings) (l : Lent) (m looks : ℕ) (zero : outcome input s l .answer ≡ answer0 m looks) where
   abbrev o : Outcome
   o = outcome input s l
 

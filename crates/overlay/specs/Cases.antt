@@ -26,7 +26,7 @@ use Rattle.build.specs.Keep.{kept}
 use Rattle.build.specs.Masks.{alive, lean, lower, under, below, bottom, top, live, maskOf, byteOf, crowdedFrom}
 use Rattle.checks.specs.declared.Settings.{Settings}
 use Rattle.checks.specs.Checks.{isShort, isBad, some, faultOf}
-use Rattle.overlay.specs.declared.answer.Answer.the-variants.{Settled, MarksFull, WorkFull, Unsettled, ScanFull}
+use Rattle.overlay.specs.Numbers.{refusal, answer0}
 use Rattle.overlay.specs.Looks.{radius, joined, lookAt, looksFrom, ran}
 use Rattle.overlay.specs.Outcome.{Lent, Outcome, finished, swept, unless, outcome}
 
@@ -132,14 +132,14 @@ marked = 2 ∷ 1 ∷ 2 ∷ 27 ∷ 23 ∷ 8 ∷ 30 ∷ 8 ∷ 1 ∷ 29 ∷ 4 ∷ 4
 -- the printed run; then with budget 1, with room for 3 marks, for 11 segments, for 3 scan entries
 runs :
     (outcome squares (settings 2) (lent 12 4 4)
-    ≡ record { answer = Settled 12 2; lists = record { work = edges ++ pos 0 ∷ []; marks = replicate 13 (pos 0); scan = replicate 13 (pos 0); masks = marked ++ 0 ∷ [] } })
+    ≡ record { answer = answer0 12 2; lists = record { work = edges ++ pos 0 ∷ []; marks = replicate 13 (pos 0); scan = replicate 13 (pos 0); masks = marked ++ 0 ∷ [] } })
     × (outcome squares (settings 1) (lent 12 4 4)
-    ≡ record { answer = Unsettled; lists = record { work = replicate 73 (pos 0); marks = replicate 13 (pos 0); scan = replicate 13 (pos 0); masks = replicate 13 0 } })
+    ≡ record { answer = refusal 10; lists = record { work = replicate 73 (pos 0); marks = replicate 13 (pos 0); scan = replicate 13 (pos 0); masks = replicate 13 0 } })
     × (outcome squares (settings 2) (lent 12 3 4)
-    ≡ record { answer = MarksFull; lists = record { work = replicate 73 (pos 0); marks = replicate 10 (pos 0); scan = replicate 13 (pos 0); masks = replicate 13 0 } })
+    ≡ record { answer = refusal 7; lists = record { work = replicate 73 (pos 0); marks = replicate 10 (pos 0); scan = replicate 13 (pos 0); masks = replicate 13 0 } })
     × (outcome squares (settings 2) (lent 11 4 4)
-    ≡ record { answer = WorkFull; lists = record { work = replicate 67 (pos 0); marks = replicate 13 (pos 0); scan = replicate 13 (pos 0); masks = replicate 12 0 } })
+    ≡ record { answer = refusal 8; lists = record { work = replicate 67 (pos 0); marks = replicate 13 (pos 0); scan = replicate 13 (pos 0); masks = replicate 12 0 } })
     × (outcome squares (settings 2) (lent 12 4 3)
-    ≡ record { answer = ScanFull; lists = record { work = replicate 73 (pos 0); marks = replicate 13 (pos 0); scan = replicate 10 (pos 0); masks = replicate 13 0 } })
+    ≡ record { answer = refusal 11; lists = record { work = replicate 73 (pos 0); marks = replicate 13 (pos 0); scan = replicate 10 (pos 0); masks = replicate 13 0 } })
 unfolding square squares settings lent edges marked pick lex insert sort rowAt flat rowsFrom front pass distinct Sum Over keep onGrid gridPoint gridSegment before between samePoint upright turn sideOf forward sameEnds plus groupsFrom groups isEmpty mergedFrom merged isFar anyFar balancedAt balancedOver closed inner level nearest quotient crossPoint onBoth far nearer reach snapped middle crossBy crossing one lineMarks kindMarks crossMarks marksWith lookFrom sameMark tidy pointsOf addTo columns nextY lastOf chainFrom piecesFrom splitFrom inside kept alive lean lower under below bottom top live maskOf byteOf crowdedFrom isShort isBad some faultOf joined lookAt looksFrom ran finished swept unless outcome
 runs = (refl, refl, refl, refl, refl)

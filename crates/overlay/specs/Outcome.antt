@@ -1,4 +1,4 @@
--- The whole outcome of a run: the answer, and what every lent list then holds ("Input and answer").
+-- The whole outcome of a run: the number of the answer, m and looks, and what every lent list then holds ("Input and answer").
 use mathlib.Core.Bool.{Bool, true, false, cond}
 use mathlib.Core.List.{List, [], _∷_, _++_}
 use Prim.Native.Nat.{ℕ}
@@ -14,7 +14,8 @@ use Rattle.checks.specs.declared.Fault.{Fault}
 use Rattle.checks.specs.declared.Fault.the-variants as fault
 use Rattle.checks.specs.Checks.{faultOf}
 use Rattle.overlay.specs.declared.answer.Answer.{Answer}
-use Rattle.overlay.specs.declared.answer.Answer.the-variants.{Settled, Short, BadSettings, OffGrid, NoLength, BadCount, Open, ScanFull}
+use Rattle.overlay.specs.declared.answer.Answer.the-variants.{Short, BadSettings, OffGrid, NoLength, BadCount, Open, ScanFull}
+use Rattle.overlay.specs.Numbers.{Told, told, answer0}
 use Rattle.overlay.specs.Looks.{Ran, settled, refused, ran}
 
 -- the lists that are lent to be written
@@ -25,12 +26,12 @@ pub record Lent : Type 0 where
   pub masks : List ℕ
 
 pub record Outcome : Type 0 where
-  pub answer : Answer
+  pub answer : Told
   pub lists : Lent
 
 -- 1 to 6 change nothing
 abbrev pub unchanged : Lent → Answer → Outcome
-unchanged l a = record { answer = a; lists = l }
+unchanged l a = record { answer = told a; lists = l }
 
 abbrev pub zeros : List ℤ → List ℤ
 zeros xs = replicate (length xs) (pos 0)
@@ -40,13 +41,13 @@ noMasks ms = replicate (length ms) 0
 
 -- 7 to 11 set every list wholly to zero
 abbrev pub cleared : Lent → Answer → Outcome
-cleared l a = record { answer = a; lists = record { work = zeros (l .work); marks = zeros (l .marks); scan = zeros (l .scan); masks = noMasks (l .masks) } }
+cleared l a = record { answer = told a; lists = record { work = zeros (l .work); marks = zeros (l .marks); scan = zeros (l .scan); masks = noMasks (l .masks) } }
 
 -- 0: the segments and then zeros, their bytes and then zeros, marks and scan all zero
 unfoldable pub finished : Settings → Lent → List Segment → ℕ → Outcome
 finished s l L looks =
     record {
-      answer = Settled (length L) looks;
+      answer = answer0 (length L) looks;
       lists = record {
         work = front segments (zeros (l .work)) L;
         marks = zeros (l .marks);
