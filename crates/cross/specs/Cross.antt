@@ -110,10 +110,3 @@ hasLength v = not (samePoint (v .a) (v .b))
 unfoldable pub crossAny : ℕ → Segment → Segment → Crossing
 crossAny radius t o =
     cond (gridSegment t && gridSegment o) (cond (hasLength t && hasLength o) (crossing radius t o) NoLength) OffGrid
-
--- document 01's number of each answer
-abbrev pub crossNumber : Crossing → ℕ
-crossNumber (Found c) = 0
-crossNumber Nothing = 0
-crossNumber OffGrid = 3
-crossNumber NoLength = 4

@@ -4,6 +4,7 @@ ghost use mathlib.Core.Bool.{_&&_};
 ghost use Prim.Native.Nat.{_*_, _<_};
 ghost use Rattle.geom.specs.Plane.{GridPoint, GridSegment, gridSegment};
 ghost use Rattle.cross.specs.Cross.{found as foundAt, inner as isInner, bit, collinearMask, onLine, onBoth, snapped as snappedBy, middle as middleBy, crossPoint, crossBy, crossing as crossingOf, hasLength, crossAny};
+ghost use Rattle.cross.specs.Said.{crossSays, crossSaid};
 ghost use Rattle.cross.specs.Middle.{Middle, Sides, taken as takenBy};
 
 pub mod answer;
@@ -203,6 +204,7 @@ fn both_have_length(target: Segment, other: Segment) -> bool
 // Of any two segments. `radius` is squared.
 pub fn cross(target: Segment, other: Segment, radius: u64) -> Crossing
     ensures { λ r. ⌜ r ≡ crossAny radius target other ⌝ }
+    ensures { λ r. ⌜ crossSays target other r ≡ crossSaid radius target other ⌝ }
 {
     if both_on_grid(target, other) {
         if both_have_length(target, other) {
