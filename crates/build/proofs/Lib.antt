@@ -1,5 +1,3 @@
-pub mod Parity
-pub mod Exclude
 pub mod Under
 pub mod Entries
 pub mod Adding

@@ -10,8 +10,8 @@ use Rattle.whole.specs.Sum.{Over, keep}
 use Rattle.geom.specs.declared.Point.{Point}
 use Rattle.geom.specs.declared.Segment.{Segment}
 use Rattle.geom.specs.Plane.{before, sameZ, upright, against, subject, clip, count}
-use Rattle.build.specs.Inside.{inside}
-use Rattle.build.specs.Keep.{kept}
+use Rattle.rules.specs.Inside.{inside}
+use Rattle.rules.specs.Keep.{kept}
 
 -- t is not upright and x lies in its range: t.a.x <= x < t.b.x
 unfoldable pub alive : ℤ → Segment → Bool

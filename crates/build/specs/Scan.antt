@@ -15,8 +15,8 @@ use Rattle.geom.specs.Plane.{Side, subject, clip, GridSegment, before, samePoin
 use Rattle.geom.specs.Rows.{segments}
 use Rattle.build.specs.declared.scan.Entry.{Entry}
 use Rattle.build.specs.declared.sums.Sums.{Sums}
-use Rattle.build.specs.Inside.{inside}
-use Rattle.build.specs.Keep.{kept}
+use Rattle.rules.specs.Inside.{inside}
+use Rattle.rules.specs.Keep.{kept}
 use Rattle.build.specs.Masks.{flag, live, below, bytes, crowded}
 
 -- ---- entries as rows

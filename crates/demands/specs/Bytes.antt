@@ -14,9 +14,9 @@ use Rattle.whole.specs.Total.{clash}
 use Rattle.geom.specs.declared.Segment.{Segment}
 use Rattle.geom.specs.Plane.{Side, subject, clip, count}
 use Rattle.segm.specs.Balance.{Balanced}
-use Rattle.build.specs.Inside.{inside}
-use Rattle.build.specs.Keep.{truth, bit, kept, sign}
-use Rattle.build.specs.KeepLaws.{dropped-by-sign, sign-of-dropped}
+use Rattle.rules.specs.Inside.{inside}
+use Rattle.rules.specs.Keep.{truth, bit, kept, sign}
+use Rattle.rules.specs.KeepLaws.{dropped-by-sign, sign-of-dropped}
 use Rattle.build.specs.Masks.{bottom, top, flag, maskOf, byteOf}
 use Rattle.laws.specs.Settled.{Settled}
 use Rattle.laws.specs.Law.{signOfSides, sides-law}

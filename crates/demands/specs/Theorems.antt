@@ -21,9 +21,9 @@ use Rattle.segm.specs.Forward.{forward as turned-forward, sorted}
 use Rattle.segm.specs.Merge.{tooBig}
 use Rattle.segm.specs.Order.{EndsBefore}
 use Rattle.segm.specs.Balance.{Balanced}
-use Rattle.build.specs.Inside.{inside}
-use Rattle.build.specs.Keep.{bit, sign}
-use Rattle.build.specs.KeepLaws.{Algebra, of-signs}
+use Rattle.rules.specs.Inside.{inside}
+use Rattle.rules.specs.Keep.{bit, sign}
+use Rattle.rules.specs.KeepLaws.{Algebra, of-signs}
 use Rattle.build.specs.Masks.{bottom, top, maskOf}
 use Rattle.laws.specs.Sides.{bottom-end, left-side}
 use Rattle.laws.specs.Ray.{ray}

@@ -21,8 +21,8 @@ use Rattle.cross.specs.declared.answer.Kind.the-variants.{Pure, TargetEnd}
 use Rattle.cross.specs.Cross.{found, inner, collinearMask, level, nearest, quotient, crossPoint, onBoth, far, nearer, reach, snapped, middle, crossBy, crossing}
 use Rattle.split.specs.Look.{one, lineMarks, kindMarks, crossMarks, marksWith, lookFrom, sameMark, tidy}
 use Rattle.split.specs.Chain.{pointsOf, addTo, columns, nextY, lastOf, chainFrom, chain, piecesFrom, splitFrom}
-use Rattle.build.specs.Inside.{inside}
-use Rattle.build.specs.Keep.{kept}
+use Rattle.rules.specs.Inside.{inside}
+use Rattle.rules.specs.Keep.{kept}
 use Rattle.build.specs.Masks.{alive, lean, lower, under, below, bottom, top, live, maskOf, byteOf, crowdedFrom}
 use Rattle.checks.specs.declared.Settings.{Settings}
 use Rattle.checks.specs.Checks.{isShort, isBad, some, faultOf}

@@ -2,7 +2,7 @@
 use mathlib.Core.Path.{_∙_, sym, ap}
 use native.Mathlib.Omega.{arith}
 use borrow.Author.Needs.{needs}
-use Rattle.build.specs.Keep.{kept}
+use Rattle.rules.specs.Keep.{kept}
 use Rattle.build.specs.Scan.{byteBy}
 use Rattle.build.proofs.sums.byte.Statement.{statement}
 use Rattle.build.proofs.sums.byte.Tie as tie

@@ -9,7 +9,7 @@ use mir.Val.{SFits, toZ, ofZ}
 use mir.Facts.{toZ-ofZ}
 use borrow.Author.Needs.{needs, sfits-of}
 use Rattle.whole.specs.Fit.{held, widen}
-use Rattle.build.specs.Inside.{inside}
+use Rattle.rules.specs.Inside.{inside}
 use Rattle.build.specs.Masks.{flag}
 use Rattle.build.specs.Scan.{sideBy}
 use Rattle.build.proofs.sums.side_bits.Statement.{statement}

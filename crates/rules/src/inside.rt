@@ -1,9 +1,9 @@
 // The four fill rules.
 ghost use mathlib.Core.Path.{_≡_};
-ghost use Rattle.build.specs.Inside.{inside as within};
+ghost use Rattle.rules.specs.Inside.{inside as within};
 
 // Whether a side with this sum of counts is inside by fill rule `rule`. A number over 3 is no rule: whoever takes one from outside refuses it first.
-pub(crate) fn inside(rule: u32, sum: i64) -> bool
+pub fn inside(rule: u32, sum: i64) -> bool
     ensures { λ r. ⌜ r ≡ within rule sum ⌝ }
 {
     match rule {

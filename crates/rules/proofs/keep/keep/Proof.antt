@@ -3,9 +3,9 @@ use mathlib.Core.Path.{_∙_, sym}
 use native.Mathlib.Omega.{arith}
 use borrow.Author.Needs.{needs}
 use borrow.Author.Tests.{lt-ltb, le-ltb}
-use Rattle.build.specs.Decision.{decision}
-use Rattle.build.proofs.keep.keep.Statement.{statement}
-use Rattle.build.proofs.keep.keep.Tie as tie
+use Rattle.rules.specs.Decision.{decision}
+use Rattle.rules.proofs.keep.keep.Statement.{statement}
+use Rattle.rules.proofs.keep.keep.Tie as tie
 
 returns : tie.Need-returns
 unfolding decision

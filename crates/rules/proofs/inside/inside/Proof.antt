@@ -3,10 +3,10 @@ use Prim.Native.Nat.{_≤_}
 use native.Mathlib.Omega.{arith}
 use lib.ListN.{List·getD-eq-default}
 use mir.Facts.{toZ-ofZ}
-use Rattle.build.specs.Inside.{inside}
-use Rattle.build.proofs.Parity.{zero-bits, odd-bits, half-fits}
-use Rattle.build.proofs.inside.inside.Statement.{statement}
-use Rattle.build.proofs.inside.inside.Tie as tie
+use Rattle.rules.specs.Inside.{inside}
+use Rattle.rules.proofs.Parity.{zero-bits, odd-bits, half-fits}
+use Rattle.rules.proofs.inside.inside.Statement.{statement}
+use Rattle.rules.proofs.inside.inside.Tie as tie
 
 rem-result : tie.Need-rem-result
 rem-result c = let f = c .before .fits .sum in rw (toZ-ofZ f) (omega arith, half-fits (c .before .args .sum) f)

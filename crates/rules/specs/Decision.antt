@@ -4,9 +4,9 @@ use mathlib.Core.Bool.{Bool, true, false, cond}
 use Prim.Native.Nat.{ℕ, _+_, _%_}
 use native.Mathlib.Omega.{arith}
 use lib.Dec.{ltb}
-use Rattle.build.specs.declared.keep.Decision.{Decision}
-use Rattle.build.specs.declared.keep.Decision.the-variants.{Keep, Drop, BadRule}
-use Rattle.build.specs.Keep.{kept}
+use Rattle.rules.specs.declared.keep.Decision.{Decision}
+use Rattle.rules.specs.declared.keep.Decision.the-variants.{Keep, Drop, BadRule}
+use Rattle.rules.specs.Keep.{kept}
 
 abbrev choice : Bool → Bool → Decision
 choice bad keep = cond bad BadRule (cond keep Keep Drop)

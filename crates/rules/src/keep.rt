@@ -1,8 +1,8 @@
 // The seven overlay rules over the sixteen masks.
 ghost use mathlib.Core.Path.{_≡_};
 ghost use Prim.Native.Nat.{_<_};
-ghost use Rattle.build.specs.Keep.{kept};
-ghost use Rattle.build.specs.Decision.{decision};
+ghost use Rattle.rules.specs.Keep.{kept};
+ghost use Rattle.rules.specs.Decision.{decision};
 
 // What is to be done with an edge.
 pub enum Decision {
@@ -27,7 +27,7 @@ pub fn keep(rule: u32, byte: u8) -> Decision
 
 // Whether an overlay rule keeps an edge with this mask: all 112 cases. The rules in order: Subject, Clip, Intersect, Union, Difference,
 // InverseDifference, Xor.
-pub(crate) fn keeps(rule: u32, mask: u8) -> bool
+pub fn keeps(rule: u32, mask: u8) -> bool
     requires { ⌜ rule < 7 ⌝ }
     requires { ⌜ mask < 16 ⌝ }
     ensures { λ r. ⌜ r ≡ kept rule mask ⌝ }

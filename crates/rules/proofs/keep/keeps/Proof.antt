@@ -5,10 +5,10 @@ use mathlib.Core.Bool.{Bool}
 use mathlib.Core.Logic.{_≢_, _⊎_, inl, inr, ⊎-elim}
 use Prim.Native.Nat.{ℕ, _<_}
 use native.Mathlib.Omega.{arith}
-use Rattle.build.specs.Keep.{differ, topOf, bottomOf, kept}
-use Rattle.build.proofs.Exclude.{Excluded, answer}
-use Rattle.build.proofs.keep.keeps.Statement.{statement}
-use Rattle.build.proofs.keep.keeps.Tie as tie
+use Rattle.rules.specs.Keep.{differ, topOf, bottomOf, kept}
+use Rattle.rules.proofs.Exclude.{Excluded, answer}
+use Rattle.rules.proofs.keep.keeps.Statement.{statement}
+use Rattle.rules.proofs.keep.keeps.Tie as tie
 
 -- m is neither of two masks
 neither : {m a b : ℕ} → ((m ≡ a) ⊎ (m ≡ b) → ⊥) → (m ≢ a) × (m ≢ b)

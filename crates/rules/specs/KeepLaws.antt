@@ -6,7 +6,7 @@ use Prim.Native.Nat.{ℕ, zero, suc, _+_}
 use lib.IntN.{ℤ, pos, _+ℤ_, _-ℤ_, _*ℤ_}
 use Rattle.whole.specs.Ring.{ring, reads}
 use Rattle.whole.specs.Sum.{ind}
-use Rattle.build.specs.Keep.{differ, truth, bit, topOf, bottomOf, kept, sign}
+use Rattle.rules.specs.Keep.{differ, truth, bit, topOf, bottomOf, kept, sign}
 
 -- ---- the worked cases
 
