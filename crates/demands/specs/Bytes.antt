@@ -1,6 +1,6 @@
 -- The byte of an edge ("Masks", "Keeping"): its low four bits are the fill rule's word on the sums at the top and the bottom of the edge, 16 is added exactly if the
 -- edge's sign under the overlay rule is not zero, and in a settled, balanced list the signs are balanced (demand 3).
-use mathlib.Core.Path.{_≡_, refl, sym, ap₂, _∙_, subst, fun-ext}
+use mathlib.Core.Path.{_≡_, refl, sym, _∙_, subst, fun-ext}
 use mathlib.Core.Bool.{Bool, true, false}
 use mathlib.Core.List.{List}
 use mathlib.Core.Logic.{_↔_, _≢_}
@@ -31,6 +31,10 @@ abbrev pub bottomBit : Side → ℕ
 bottomBit subject = 2
 bottomBit clip = 8
 
+-- a kept edge's byte has 16 added
+abbrev pub keptBit : ℕ
+keptBit = 16
+
 -- ---- four bits
 
 abbrev four : Bool → Bool → Bool → Bool → ℕ
@@ -48,18 +52,6 @@ module _ (p q r s : Bool) where
   abbrev known : (flag p < 2) × (flag q < 2) × (flag r < 2) × (flag s < 2)
   known = (one p, one q, one r, one s)
 
-  bit-1 : bit 1 (four p q r s) ≡ p
-  bit-1 = reads p (four p q r s / 1 % 2) (omega (arith, known))
-
-  bit-2 : bit 2 (four p q r s) ≡ q
-  bit-2 = reads q (four p q r s / 2 % 2) (omega (arith, known))
-
-  bit-4 : bit 4 (four p q r s) ≡ r
-  bit-4 = reads r (four p q r s / 4 % 2) (omega (arith, known))
-
-  bit-8 : bit 8 (four p q r s) ≡ s
-  bit-8 = reads s (four p q r s / 8 % 2) (omega (arith, known))
-
   below-16 : four p q r s < 16
   below-16 = omega (arith, known)
 
@@ -74,13 +66,13 @@ module _ (fill : ℕ) (L : List Segment) (e : Segment) where
 
   pub mask-top : (d : Side) → bit (topBit d) (maskOf fill L e) ≡ above d
   unfolding maskOf
-  mask-top subject = bit-1 (above subject) (beneath subject) (above clip) (beneath clip)
-  mask-top clip = bit-4 (above subject) (beneath subject) (above clip) (beneath clip)
+  mask-top subject = reads (above subject) (maskOf fill L e / topBit subject % 2) (omega (arith, known (above subject) (beneath subject) (above clip) (beneath clip)))
+  mask-top clip = reads (above clip) (maskOf fill L e / topBit clip % 2) (omega (arith, known (above subject) (beneath subject) (above clip) (beneath clip)))
 
   pub mask-bottom : (d : Side) → bit (bottomBit d) (maskOf fill L e) ≡ beneath d
   unfolding maskOf
-  mask-bottom subject = bit-2 (above subject) (beneath subject) (above clip) (beneath clip)
-  mask-bottom clip = bit-8 (above subject) (beneath subject) (above clip) (beneath clip)
+  mask-bottom subject = reads (beneath subject) (maskOf fill L e / bottomBit subject % 2) (omega (arith, known (above subject) (beneath subject) (above clip) (beneath clip)))
+  mask-bottom clip = reads (beneath clip) (maskOf fill L e / bottomBit clip % 2) (omega (arith, known (above subject) (beneath subject) (above clip) (beneath clip)))
 
   mask-below : maskOf fill L e < 16
   unfolding maskOf
@@ -91,17 +83,17 @@ module _ (fill : ℕ) (L : List Segment) (e : Segment) where
     unfolding byteOf
     byte-mask = omega (arith, mask-below, one (kept rule (maskOf fill L e)))
 
-    byte-kept : bit 16 (byteOf fill rule L e) ≡ kept rule (maskOf fill L e)
+    byte-kept : bit keptBit (byteOf fill rule L e) ≡ kept rule (maskOf fill L e)
     unfolding byteOf
-    byte-kept = reads (kept rule (maskOf fill L e)) (byteOf fill rule L e / 16 % 2) (omega (arith, mask-below, one (kept rule (maskOf fill L e))))
+    byte-kept = reads (kept rule (maskOf fill L e)) (byteOf fill rule L e / keptBit % 2) (omega (arith, mask-below, one (kept rule (maskOf fill L e))))
 
     -- what the overlay rule makes of the two areas on top, less what it makes of them on bottom
     pub sign-is : sign rule (maskOf fill L e) ≡ ind (truth rule (above subject) (above clip)) -ℤ ind (truth rule (beneath subject) (beneath clip))
     unfolding sign
-    sign-is = ap₂ _-ℤ_ (ap₂ (λ x y. ind (truth rule x y)) (mask-top subject) (mask-top clip)) (ap₂ (λ x y. ind (truth rule x y)) (mask-bottom subject) (mask-bottom clip))
+    sign-is = cc (mask-top subject, mask-top clip, mask-bottom subject, mask-bottom clip)
 
     -- THE LAW: kept exactly if the sign is not zero
-    pub kept-is : (bit 16 (byteOf fill rule L e) ≡ true) ↔ (sign rule (maskOf fill L e) ≢ pos 0)
+    pub kept-is : (bit keptBit (byteOf fill rule L e) ≡ true) ↔ (sign rule (maskOf fill L e) ≢ pos 0)
     kept-is = (λ k z. clash (sym byte-kept ∙ k) (dropped-by-sign rule (maskOf fill L e) z), λ n. byte-kept ∙ yes (kept rule (maskOf fill L e)) refl n)
       where
         yes : (b : Bool) → kept rule (maskOf fill L e) ≡ b → sign rule (maskOf fill L e) ≢ pos 0 → b ≡ true

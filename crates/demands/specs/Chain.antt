@@ -98,7 +98,7 @@ step room work final made L f K looks e =
     go false false false false true p q r t e = refusal e
     go false false false false false p q r t e =
         let j = joined-step (cut L) K f looks e in
-        some-marks (something ms r) refl (record { marks = ltb-false room (length ms) q; pieces = ltb-false work (length L + length (tidy ms)) t; totals = j .0 }) (j .1)
+        some-marks (something ms r) refl (record { marks = ltb-false room (length ms) q; pieces = omega (arith, ltb-false work (length L + length (tidy ms)) t); totals = j .0 }) (cc (j .1))
 
 add-look : {room work : ℕ} {final : Bool} {L K : List Segment} {f : List Segment → Ran} {made looks : ℕ} → Step room work final made L f K looks
     → (f (next L) ≡ settled K looks → Made (next L) K (suc made) looks) → Made L K made looks

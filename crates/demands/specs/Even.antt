@@ -43,8 +43,9 @@ looks-even {L} (again n k) h = let r = looks-even k (merged-even (cut L) (cut-ev
 
 -- THE THEOREM
 pub all-even : {L K : List Segment} {Ls : List (List Segment)} → Looks (start L) Ls K → Even L → AllEven L Ls K
+unfolding Balanced
 all-even {L} c h =
-    let t = turned-even L h in
+    let t = turned-even L (λ d p. cc (h d p)) in
     let r = looks-even c (merged-even (map forward L) t) in
     record {
       turned = t;

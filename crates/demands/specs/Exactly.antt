@@ -25,11 +25,11 @@ pub data Allowed (room work : ℕ) : ℕ → List Segment → Type 0 where
 
 -- ---- one look
 
-count-some : {A : Type 0} (L : List A) → L ≢ [] → eqb (length L) 0 ≡ false
+pub count-some : {A : Type 0} (L : List A) → L ≢ [] → eqb (length L) 0 ≡ false
 count-some [] n = absurd (n refl)
 count-some (t ∷ L) n = ne-eqb (length (t ∷ L)) 0 (λ e. omega arith)
 
-marks-of-some : {L : List Segment} → look radius L ≢ [] → L ≢ []
+pub marks-of-some : {L : List Segment} → look radius L ≢ [] → L ≢ []
 marks-of-some n e = n (ap (look radius) e ∙ no-marks)
 
 module _ (room work made : ℕ) (f : List Segment → Ran) (L : List Segment) where
@@ -42,7 +42,7 @@ module _ (room work made : ℕ) (f : List Segment → Ran) (L : List Segment) wh
       let none : length ms ≡ 0 = ap length e in
       rw (count-some L n, le-ltb room (length ms) (omega arith), eq-eqb (length ms) 0 none)
 
-  at-marks : look radius L ≢ [] → Passes room work L → lookAt room work false made L f ≡ f (next L)
+  pub at-marks : look radius L ≢ [] → Passes room work L → lookAt room work false made L f ≡ f (next L)
   unfolding lookAt joined
   at-marks n p =
       rw (count-some L (marks-of-some n), le-ltb room (length ms) (p .marks), count-some ms n, le-ltb work (length L + length (tidy ms)) (p .pieces), p .totals)

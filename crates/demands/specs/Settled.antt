@@ -28,7 +28,7 @@ runs : {L : List Segment} → Ordered L → All Forward L
 runs o = all-map (λ t g. g .1) (o .good)
 
 unmarked-settled : {L : List Segment} → look radius L ≡ [] → Ordered L → Settled L
-unmarked-settled {L} e o = let f = runs o in record { forward = f; apart = look-settled radius L f (pairs-map (λ s t p q. different) f (o .strict)) .0 e }
+unmarked-settled {L} e o = let f = runs o in record { forward = f; apart = look-settled radius L f (pairs-map (λ s t p q. different) f (o .strict)) .0 (cc) }
 
 pub looks-settled : {L K : List Segment} {Ls : List (List Segment)} → Looks L Ls K → Ordered K → Settled K
 looks-settled empty o = record { forward = none; apart = no-pair }

@@ -39,11 +39,12 @@ use Rattle.overlay.specs.Looks.{settled as settled-as, ran}
 use Rattle.overlay.specs.Outcome.{Lent, Outcome, outcome}
 use Rattle.demands.specs.Chain.{start, Chain, one-chain}
 use Rattle.demands.specs.Exactly.{Allowed, settles-exactly}
+use Rattle.demands.specs.Refusals.{Answers, exactly}
 use Rattle.demands.specs.Even.{Even, AllEven, all-even}
 use Rattle.demands.specs.Ordered.{Ordered, all-ordered}
 use Rattle.demands.specs.Settled.{looks-settled, meet-at-ends}
 use Rattle.demands.specs.Answer.{given, edges, Answered, answered}
-use Rattle.demands.specs.Bytes.{topBit, bottomBit, mask-top, mask-bottom, byte-mask, kept-is, signs-balanced}
+use Rattle.demands.specs.Bytes.{topBit, bottomBit, keptBit, mask-top, mask-bottom, byte-mask, kept-is, signs-balanced}
 use Rattle.demands.specs.Places.{row-in, row-pair, row-byte}
 
 -- edge number k and its byte
@@ -52,6 +53,11 @@ edge o k = rowAt segments (o .lists .work) k
 
 abbrev pub byte : Outcome → ℕ → ℕ
 byte o k = getD (o .lists .masks) k 0
+
+-- "Input and answer", the table: a number is answered exactly when no sentence that the run tests before its own holds, and its own does. `Answers` has a row for each
+-- number, 0 to 11
+pub numbers-exactly : (input : List ℤ) (s : Settings) (l : Lent) (k : ℕ) → (outcome input s l .answer .number ≡ k) ↔ Answers input s l k
+numbers-exactly = exactly
 
 -- "Input and answer", 7 to 10: the looks settle exactly if the totals of the turned list fit (9) and, look after look, marks and pieces have room (7, 8), totals fit (9) and
 -- a look is left (10)
@@ -126,7 +132,7 @@ module _ (input : List ℤ) (s : Settings) (l : Lent) (m looks : ℕ) (zero : ou
 
     -- "Masks": the bottom counted just right of a is the one counted just left of b; the left side of an upright edge is its top
     pub right-end : edge o k .a .x .0 <ℤ edge o k .b .x .0 → bottom (count d) K (edge o k) ≡ bottom-end (count d) K (edge o k)
-    right-end = both-ends (count d) K apart (even d) (edge o k) at-k
+    right-end u = both-ends (count d) K apart (even d) (edge o k) at-k (omega zz)
 
     pub left-of-upright : edge o k .a .x .0 ≡ edge o k .b .x .0 → left-side (count d) K (edge o k) ≡ top (count d) K (edge o k)
     left-of-upright u = left-is-top (count d) K apart (even d) (edge o k) at-k u (rises (forward k h) u)
@@ -134,17 +140,17 @@ module _ (input : List ℤ) (s : Settings) (l : Lent) (m looks : ℕ) (zero : ou
     -- "Masks", SVG 2: the bits are the fill rule's word on the count of a ray, from any point beside the edge with no other edge between
     module _ (P : Off) where
       pub ray-over-edge : Beside K (edge o k) P → pos 0 <ℤ cross (edge o k) P → bit (topBit d) (byte o k % 16) ≡ inside (s .fill) (ray (count d) K P)
-      ray-over-edge b c = top-bit ∙ ap (inside (s .fill)) (sym (ray-over (count d) K apart (even d) (edge o k) at-k P b c))
+      ray-over-edge b c = top-bit ∙ ap (inside (s .fill)) (sym (ray-over (count d) K apart (even d) (edge o k) at-k P b (omega zz)))
 
       pub ray-under-edge : Beside K (edge o k) P → cross (edge o k) P <ℤ pos 0 → bit (bottomBit d) (byte o k % 16) ≡ inside (s .fill) (ray (count d) K P)
-      ray-under-edge b c = bottom-bit ∙ ap (inside (s .fill)) (sym (ray-under (count d) K apart (even d) (edge o k) at-k P b c))
+      ray-under-edge b c = bottom-bit ∙ ap (inside (s .fill)) (sym (ray-under (count d) K apart (even d) (edge o k) at-k P b (omega zz)))
 
       module _ (u : edge o k .a .x .0 ≡ edge o k .b .x .0) (v : Level K (edge o k) P) where
         pub ray-right-of-edge : (P .d *ℤ edge o k .a .x .0) <ℤ P .X → bit (bottomBit d) (byte o k % 16) ≡ inside (s .fill) (ray (count d) K P)
-        ray-right-of-edge c = bottom-bit ∙ ap (inside (s .fill)) (sym (ray-right (count d) K apart (even d) (edge o k) at-k u (rises (forward k h) u) P v c))
+        ray-right-of-edge c = bottom-bit ∙ ap (inside (s .fill)) (sym (ray-right (count d) K apart (even d) (edge o k) at-k u (rises (forward k h) u) P v (omega zz)))
 
         pub ray-left-of-edge : P .X <ℤ (P .d *ℤ edge o k .a .x .0) → bit (topBit d) (byte o k % 16) ≡ inside (s .fill) (ray (count d) K P)
-        ray-left-of-edge c = top-bit ∙ ap (inside (s .fill)) (sym (ray-left (count d) K apart (even d) (edge o k) at-k u (rises (forward k h) u) P v c))
+        ray-left-of-edge c = top-bit ∙ ap (inside (s .fill)) (sym (ray-left (count d) K apart (even d) (edge o k) at-k u (rises (forward k h) u) P v (omega zz)))
 
   -- ---- demand 3
 
@@ -162,7 +168,7 @@ module _ (input : List ℤ) (s : Settings) (l : Lent) (m looks : ℕ) (zero : ou
   algebra k = of-signs (byte o k % 16)
 
   -- "Keeping": 16 is added to a byte exactly if the edge's sign under the rule asked for is not zero
-  pub kept : (k : ℕ) → k < m → (bit 16 (byte o k) ≡ true) ↔ (sign (s .rule) (byte o k % 16) ≢ pos 0)
+  pub kept : (k : ℕ) → k < m → (bit keptBit (byte o k) ≡ true) ↔ (sign (s .rule) (byte o k % 16) ≢ pos 0)
   kept k h =
       rw (row-byte (o .lists .work) m (s .fill) (s .rule) (o .lists .masks) (facts .bytes) k h, byte-mask (s .fill) K (edge o k) (s .rule))
       (kept-is (s .fill) K (edge o k) (s .rule))
