@@ -80,13 +80,13 @@ module _ (marks work scan : ℕ) where
     where
       go : {a b c d e : Bool} → Decides (MarksOver marks L) a → Decides (StillMarks L) b → (left ≡ 0) ⊎ (left ≢ 0) → Decides (PiecesOver work L) c → Decides (TotalLeaves (sorted (cut L))) d → Decides (TooManyLive scan L) e
           → ((k : ℕ) × Met marks work scan left L k) ⊎ ((left ≢ 0) × GoesOn marks work L)
-      go (yes p) st z pc t v = inl (7, met-7 p)
-      go (no n) (yes st) (inl z) pc t v = inl (10, met-10 n st z)
-      go (no n) (yes st) (inr z) (yes pc) t v = inl (8, met-8 n st z pc)
-      go (no n) (yes st) (inr z) (no m) (yes t) v = inl (9, met-9 n st z m t)
-      go (no n) (yes st) (inr z) (no m) (no t) v = inr (z, record { yields = st; not-7 = n; not-8 = m; not-9 = t })
-      go (no n) (no st) z pc t (yes v) = inl (11, met-11 st v)
-      go (no n) (no st) z pc t (no v) = inl (0, met-0 st v)
+      go (yes p) st z pc t v = inl (_, met-7 (omega arith))
+      go (no n) (yes st) (inl z) pc t v = inl (_, met-10 (λ q. omega arith) (omega arith) (omega arith))
+      go (no n) (yes st) (inr z) (yes pc) t v = inl (_, met-8 (λ q. omega arith) (omega arith) (λ q. omega arith) (omega arith))
+      go (no n) (yes st) (inr z) (no m) (yes t) v = inl (_, met-9 (λ q. omega arith) (omega arith) (λ q. omega arith) (λ q. omega arith) t)
+      go (no n) (yes st) (inr z) (no m) (no t) v = inr (z, record { yields = omega arith; not-7 = λ q. omega arith; not-8 = λ q. omega arith; not-9 = t })
+      go (no n) (no st) z pc t (yes v) = inl (_, met-11 (λ q. omega arith) v)
+      go (no n) (no st) z pc t (no v) = inl (_, met-0 (λ q. omega arith) v)
 
   -- so looks end somewhere
   record Ends (left : ℕ) (L : List Segment) : Type 0 where
