@@ -1,7 +1,7 @@
 -- From the tests of `fill` to its outcome: each refusal, what is known where none is given, and what the sweep then leaves.
 use mathlib.Core.Path.{_≡_, refl, sym, ap, ap₂, _∙_}
 use mathlib.Core.Bool.{Bool, true, false, not, _||_}
-use mathlib.Core.List.{List, [], _∷_, _++_, map}
+use mathlib.Core.List.{List, _++_}
 use mathlib.Core.Logic.{⊎-elim}
 use Prim.Native.Nat.{ℕ, zero, suc, _+_, _*_, _≤_, _<_}
 use native.Mathlib.Nat.{eq-or-lt-of-le}
@@ -12,16 +12,15 @@ use lib.ListN.{length, drop, replicate, length-map, length-replicate}
 use lib.Seq.{sets, sets-eq}
 use borrow.Author.Tests.{ltb-false}
 use Rattle.whole.specs.Kind.{rowsFrom}
-use Rattle.whole.specs.KindLaws.{length-rows}
 use Rattle.geom.specs.declared.Segment.{Segment}
 use Rattle.geom.specs.Limits.{segmentLimit, scanRoom}
 use Rattle.geom.specs.Plane.{gridSegment}
 use Rattle.geom.specs.Rows.{segments}
 use Rattle.geom.specs.Tests.{gridSegment?, when-true}
-use Rattle.build.specs.declared.sweep.Filled.{Filled}
 use Rattle.build.specs.declared.sweep.Filled.the-variants.{Done, Short, BadRule, OffGrid, NoLength, BadCount, ScanFull}
-use Rattle.build.specs.Masks.{byteOf, bytes, crowded}
-use Rattle.build.specs.Scan.{segmentAt, OnGrids, Swept}
+use Rattle.scan.specs.Masks.{byteOf, bytes}
+use Rattle.scan.specs.Scan.{segmentAt, OnGrids}
+use Rattle.build.specs.Sweep.{Swept}
 use Rattle.build.specs.Fill.{isShort, isBad, isOff, isPoint, hasLeast, some, outcome, zeros, noMasks, swept, filled}
 
 -- ---- what a test that fails says

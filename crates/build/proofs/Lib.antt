@@ -1,7 +1,3 @@
-pub mod Under
-pub mod Entries
-pub mod Adding
-pub mod Holding
 pub mod Order
 pub mod Node
 pub mod Sweeping

@@ -18,8 +18,9 @@ use Rattle.geom.specs.Order.{Order, sooner, equal, later, order, before-trans, 
 use Rattle.geom.specs.Plane.{Before, by-x, by-y, before, samePoint}
 use Rattle.geom.specs.Rows.{segments}
 use Rattle.geom.specs.Tests.{before?, samePoint?, holds, fails, when-false}
-use Rattle.build.specs.Masks.{live}
-use Rattle.build.specs.Scan.{segmentAt, ordered}
+use Rattle.scan.specs.Masks.{live}
+use Rattle.scan.specs.Scan.{segmentAt}
+use Rattle.build.specs.Sweep.{ordered}
 
 -- ---- points
 

@@ -16,11 +16,13 @@ use Rattle.whole.specs.Sum.{All, none, all-map, all-keep, keep}
 use Rattle.geom.specs.declared.Point.{Point}
 use Rattle.geom.specs.declared.Segment.{Segment}
 use Rattle.geom.specs.Rows.{segments}
-use Rattle.build.specs.Masks.{live, byteOf, bytes, crowdedFrom, crowded}
-use Rattle.build.specs.Scan.{entries, segmentAt, entriesFrom, EntryOf, liveAt, sumsOf, byteBy, bytesBy, ordered, NodeEnd, arrivals, Holds, Swept}
-use Rattle.build.proofs.Entries.{all-entry}
+use Rattle.scan.specs.Masks.{live, byteOf, bytes, crowdedFrom, crowded}
+use Rattle.scan.specs.Scan.{entries, segmentAt, entriesFrom, EntryOf, liveAt, sumsOf, byteBy, arrivals, Holds}
+use Rattle.build.specs.Sweep.{bytesBy, ordered, NodeEnd, Swept}
+use Rattle.scan.proofs.Entries.{all-entry}
 use Rattle.build.proofs.Order.{in-order}
-use Rattle.build.proofs.Node.{live-number, byte-is, together, at-next}
+use Rattle.scan.proofs.Node.{live-number, byte-is}
+use Rattle.build.proofs.Node.{together, at-next}
 
 -- ---- lists of bytes
 

@@ -14,7 +14,7 @@ use Rattle.geom.specs.Limits.{segmentLimit, scanRoom}
 use Rattle.geom.specs.Rows.{segments}
 use Rattle.build.specs.declared.sweep.Filled.{Filled}
 use Rattle.build.specs.declared.sweep.Filled.the-variants.{Done, Short, BadRule, OffGrid, NoLength, BadCount, ScanFull}
-use Rattle.build.specs.Masks.{bytes, crowded}
+use Rattle.scan.specs.Masks.{bytes, crowded}
 
 -- document 01's number for each case
 abbrev pub numberOf : Filled → ℕ

@@ -7,7 +7,8 @@ ghost use Rattle.whole.specs.Kind.{rowsFrom};
 ghost use Rattle.whole.specs.Sum.{All};
 ghost use Rattle.geom.specs.Limits.{scanRoom};
 ghost use Rattle.geom.specs.Rows.{segments};
-ghost use Rattle.build.specs.Scan.{entries, EntryOf, OnGrids, ordered, NodeEnd, bytesBy, Swept};
+ghost use Rattle.scan.specs.Scan.{entries, EntryOf, OnGrids};
+ghost use Rattle.build.specs.Sweep.{ordered, NodeEnd, bytesBy, Swept};
 ghost use Rattle.build.specs.Fill.{outcome, filled};
 
 pub enum Filled {
@@ -77,7 +78,7 @@ fn sweep(work: &[i32], n: usize, fill: u32, rule: u32, scan: &mut [i64], masks: 
     while i < n {
         let e = node_end(work, n, i);
         let v = geom::read(work, i);
-        used = crate::scan::arrive(work, n, scan, room, used, i, e, v.a, sorted);
+        used = scan::list::arrive(work, n, scan, room, used, i, e, v.a, sorted);
         if room < used {
             return true;
         }
@@ -151,8 +152,8 @@ fn write_bytes(
 {
     for k in i..e {
         let v = geom::read(work, k);
-        let s = crate::sums::sums_below(work, n, scan, used, v);
-        let byte = crate::sums::byte(fill, rule, s, v);
+        let s = scan::sums::sums_below(work, n, scan, used, v);
+        let byte = scan::sums::byte(fill, rule, s, v);
         masks[k] = byte;
     }
 }

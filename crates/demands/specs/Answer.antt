@@ -17,7 +17,7 @@ use Rattle.geom.specs.Rows.{segments}
 use Rattle.segm.specs.Forward.{forward, sorted}
 use Rattle.segm.specs.Merge.{merged, tooBig}
 use Rattle.split.specs.Look.{look, tidy}
-use Rattle.build.specs.Masks.{byteOf, bytes, crowded}
+use Rattle.scan.specs.Masks.{byteOf, bytes, crowded}
 use Rattle.checks.specs.declared.Settings.{Settings}
 use Rattle.checks.specs.declared.Fault.{Fault}
 use Rattle.checks.specs.declared.Fault.the-variants.{Sound, Short, BadSettings, OffGrid, NoLength, BadCount, Open}

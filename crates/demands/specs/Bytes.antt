@@ -17,7 +17,7 @@ use Rattle.segm.specs.Balance.{Balanced}
 use Rattle.rules.specs.Inside.{inside}
 use Rattle.rules.specs.Keep.{truth, bit, kept, sign}
 use Rattle.rules.specs.KeepLaws.{dropped-by-sign, sign-of-dropped}
-use Rattle.build.specs.Masks.{bottom, top, flag, maskOf, byteOf}
+use Rattle.scan.specs.Masks.{bottom, top, flag, maskOf, byteOf}
 use Rattle.laws.specs.Settled.{Settled}
 use Rattle.laws.specs.Law.{signOfSides, sides-law}
 use Rattle.demands.specs.Even.{Even}

@@ -11,7 +11,7 @@ use Rattle.whole.specs.KindLaws.{rows-at, length-rows}
 use Rattle.whole.specs.Sum.{Pairs, pair}
 use Rattle.geom.specs.declared.Segment.{Segment}
 use Rattle.geom.specs.Rows.{segments}
-use Rattle.build.specs.Masks.{byteOf, bytes}
+use Rattle.scan.specs.Masks.{byteOf, bytes}
 use Rattle.laws.specs.Settled.{In, here, there, all-in}
 
 module _ {A : Type 0} (d : A) where

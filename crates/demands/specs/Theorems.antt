@@ -24,7 +24,7 @@ use Rattle.segm.specs.Balance.{Balanced}
 use Rattle.rules.specs.Inside.{inside}
 use Rattle.rules.specs.Keep.{bit, sign}
 use Rattle.rules.specs.KeepLaws.{Algebra, of-signs}
-use Rattle.build.specs.Masks.{bottom, top, maskOf}
+use Rattle.scan.specs.Masks.{bottom, top, maskOf}
 use Rattle.laws.specs.Sides.{bottom-end, left-side}
 use Rattle.laws.specs.Ray.{ray}
 use Rattle.laws.specs.Settled.{Settled, In, all-in}

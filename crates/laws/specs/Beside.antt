@@ -16,7 +16,7 @@ use Rattle.geom.specs.declared.Segment.{Segment}
 use Rattle.geom.specs.Off.{Off, cross, On}
 use Rattle.plane.specs.Apart.{Apart}
 use Rattle.segm.specs.Balance.{Balanced}
-use Rattle.build.specs.Masks.{bottom, top}
+use Rattle.scan.specs.Masks.{bottom, top}
 use Rattle.laws.specs.Ray.{alive-at, crossed, ray}
 use Rattle.laws.specs.Settled.{In, Settled, Meets, meets-in, only}
 use Rattle.laws.specs.Mid.{Inside, anywhere}

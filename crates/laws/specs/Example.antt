@@ -12,7 +12,7 @@ use Rattle.geom.specs.Off.{Off, cross, Within, rising, falling}
 use Rattle.plane.specs.Apart.{Apart, apart, apart-is}
 use Rattle.segm.specs.Balance.{Balanced, balancedAt, balancedOver}
 use Rattle.segm.specs.BalanceLaws.{balanced-test}
-use Rattle.build.specs.Masks.{bottom, top}
+use Rattle.scan.specs.Masks.{bottom, top}
 use Rattle.laws.specs.Edges.{running, standing, edges}
 use Rattle.laws.specs.Ray.{ray}
 use Rattle.laws.specs.Settled.{here, there, Settled, apartFrom, settled, settled-of}

@@ -14,7 +14,7 @@ use Rattle.geom.specs.declared.Point.{Point}
 use Rattle.geom.specs.declared.Segment.{Segment}
 use Rattle.geom.specs.Plane.{Before, by-x, by-y, Side, count, subject, clip}
 use Rattle.segm.specs.Balance.{Balanced}
-use Rattle.build.specs.Masks.{bottom, top}
+use Rattle.scan.specs.Masks.{bottom, top}
 use Rattle.laws.specs.Sides.{below-end, bottom-end}
 use Rattle.laws.specs.Points.{point-of}
 use Rattle.laws.specs.Telescope.{rise, Lower, telescope}

@@ -16,7 +16,7 @@ use Rattle.geom.specs.Plane.{turn, against, by-x}
 use Rattle.geom.specs.Off.{Off, cross}
 use Rattle.plane.specs.Apart.{o₁, o₂}
 use Rattle.segm.specs.Balance.{Balanced}
-use Rattle.build.specs.Masks.{bottom}
+use Rattle.scan.specs.Masks.{bottom}
 use Rattle.laws.specs.Ray.{alive-at, crossed, ray}
 use Rattle.laws.specs.Points.{runs}
 use Rattle.laws.specs.Boundary.{region}

@@ -17,7 +17,7 @@ use Rattle.segm.specs.Balance.{Balanced, balanced}
 use Rattle.segm.specs.BalanceLaws.{balanced-test}
 use Rattle.split.specs.declared.answer.Mark.{Mark}
 use Rattle.split.specs.Chain.{split}
-use Rattle.build.specs.Masks.{below, bottom, top, live}
+use Rattle.scan.specs.Masks.{below, bottom, top, live}
 use Rattle.laws.specs.Sides.{bottom-end, left-side}
 use Rattle.laws.specs.Ray.{ray}
 use Rattle.laws.specs.Boundary.{∂, balanced-is, region}
@@ -27,7 +27,7 @@ use Rattle.laws.specs.Settled.{In, Settled}
 use Rattle.laws.specs.Along.{both-ends}
 use Rattle.laws.specs.Upright.{left-is-top}
 use Rattle.laws.specs.Law.{sign, sign-law, signOfSides, sides-law}
-use Rattle.build.specs.Live.{sweep}
+use Rattle.scan.specs.Live.{sweep}
 use Rattle.laws.specs.Beside.{Beside, ray-over, ray-under}
 use Rattle.laws.specs.Level.{Level}
 use Rattle.laws.specs.BesideUpright.{ray-right, ray-left}

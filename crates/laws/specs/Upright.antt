@@ -16,7 +16,7 @@ use Rattle.geom.specs.Plane.{sameZ, Before, by-x, by-y}
 use Rattle.plane.specs.Order.{before-irr}
 use Rattle.plane.specs.Apart.{UpTo, Apart, o₁, o₂}
 use Rattle.segm.specs.Balance.{Balanced}
-use Rattle.build.specs.Masks.{bottom, top}
+use Rattle.scan.specs.Masks.{bottom, top}
 use Rattle.laws.specs.Sides.{reaches, below-left, left-side}
 use Rattle.laws.specs.Points.{then-upto, runs}
 use Rattle.laws.specs.Place.{up-left-a, up-left-b}

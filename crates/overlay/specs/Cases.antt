@@ -23,7 +23,7 @@ use Rattle.split.specs.Look.{one, lineMarks, kindMarks, crossMarks, marksWith, 
 use Rattle.split.specs.Chain.{pointsOf, addTo, columns, nextY, lastOf, chainFrom, chain, piecesFrom, splitFrom}
 use Rattle.rules.specs.Inside.{inside}
 use Rattle.rules.specs.Keep.{kept}
-use Rattle.build.specs.Masks.{alive, lean, lower, under, below, bottom, top, live, maskOf, byteOf, crowdedFrom}
+use Rattle.scan.specs.Masks.{alive, lean, lower, under, below, bottom, top, live, maskOf, byteOf, crowdedFrom}
 use Rattle.checks.specs.declared.Settings.{Settings}
 use Rattle.checks.specs.Checks.{isShort, isBad, some, faultOf}
 use Rattle.overlay.specs.Numbers.{refusal, answer0}

@@ -8,7 +8,7 @@ use Rattle.whole.specs.Kind.{rowsFrom, front}
 use Rattle.geom.specs.declared.Segment.{Segment}
 use Rattle.geom.specs.Limits.{workRoom, markRoom, scanRoom}
 use Rattle.geom.specs.Rows.{segments}
-use Rattle.build.specs.Masks.{bytes, crowded}
+use Rattle.scan.specs.Masks.{bytes, crowded}
 use Rattle.checks.specs.declared.Settings.{Settings}
 use Rattle.checks.specs.declared.Fault.{Fault}
 use Rattle.checks.specs.declared.Fault.the-variants as fault

@@ -15,7 +15,7 @@ use Rattle.geom.specs.Tests.{Decides, said, lt?}
 use Rattle.plane.specs.Decide.{or}
 use Rattle.segm.specs.Merge.{groups, isFar, anyFar, tooBig}
 use Rattle.split.specs.Look.{look, tidy}
-use Rattle.build.specs.Masks.{live, crowdedFrom, crowded}
+use Rattle.scan.specs.Masks.{live, crowdedFrom, crowded}
 use Rattle.checks.specs.Checks.{some}
 use Rattle.checks.specs.Exactly.{Has, below?, has?}
 use Rattle.overlay.specs.Looks.{radius}

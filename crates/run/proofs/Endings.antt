@@ -19,7 +19,7 @@ use Rattle.checks.specs.declared.Settings.{Settings}
 use Rattle.checks.specs.Accepted.{InRange}
 use Rattle.build.specs.declared.sweep.Filled.{Filled}
 use Rattle.build.specs.declared.sweep.Filled.the-variants.{Done, ScanFull}
-use Rattle.build.specs.Masks.{bytes, crowded}
+use Rattle.scan.specs.Masks.{bytes, crowded}
 use Rattle.build.specs.Fill as fill
 use Rattle.build.proofs.sweep.Filled.{the-type}
 use Rattle.overlay.specs.declared.answer.Answer.{Answer}

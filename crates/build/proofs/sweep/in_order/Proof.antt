@@ -9,7 +9,8 @@ use Rattle.whole.specs.Kind.{rowsFrom}
 use Rattle.geom.specs.declared.Segment.{Segment}
 use Rattle.geom.specs.Plane.{before}
 use Rattle.geom.specs.Rows.{segments}
-use Rattle.build.specs.Scan.{segmentAt, ordered}
+use Rattle.scan.specs.Scan.{segmentAt}
+use Rattle.build.specs.Sweep.{ordered}
 use Rattle.build.proofs.Order.{order-step, order-done}
 use Rattle.build.proofs.sweep.in_order.Statement.{statement}
 use Rattle.build.proofs.sweep.in_order.Tie as tie

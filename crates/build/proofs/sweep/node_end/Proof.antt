@@ -8,7 +8,7 @@ use borrow.Author.Needs.{needs}
 use Rattle.geom.specs.declared.Segment.{Segment}
 use Rattle.geom.specs.Plane.{samePoint}
 use Rattle.geom.specs.Tests.{samePoint?, when-true}
-use Rattle.build.specs.Scan.{segmentAt}
+use Rattle.scan.specs.Scan.{segmentAt}
 use Rattle.build.proofs.sweep.node_end.Statement.{statement}
 use Rattle.build.proofs.sweep.node_end.Tie as tie
 

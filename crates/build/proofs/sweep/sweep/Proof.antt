@@ -6,7 +6,7 @@ use borrow.Author.Needs.{needs}
 use lib.ListN.{length}
 use Rattle.whole.specs.Kind.{rowsFrom}
 use Rattle.geom.specs.declared.Segment.{Segment}
-use Rattle.build.specs.Scan.{entries, segmentAt, arrivals, Holds}
+use Rattle.scan.specs.Scan.{entries, segmentAt, arrivals, Holds}
 use Rattle.build.proofs.Sweeping.{Sweeping, sweeping-start, sweeping-step, swept-crowded, swept, entries-now}
 use Rattle.build.proofs.sweep.sweep.Statement.{statement}
 use Rattle.build.proofs.sweep.sweep.Tie as tie

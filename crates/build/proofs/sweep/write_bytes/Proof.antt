@@ -14,9 +14,10 @@ use Rattle.whole.specs.Kind.{rowsFrom}
 use Rattle.whole.specs.KindLaws.{rows-step, rows-done}
 use Rattle.geom.specs.declared.Segment.{Segment}
 use Rattle.geom.specs.Rows.{segments}
-use Rattle.build.specs.declared.sums.Sums.{Sums}
-use Rattle.build.specs.Scan.{entries, segmentAt, sumsOf, byteBy, bytesBy}
-use Rattle.build.proofs.Adding.{near-32}
+use Rattle.scan.specs.declared.sums.Sums.{Sums}
+use Rattle.scan.specs.Scan.{entries, segmentAt, sumsOf, byteBy}
+use Rattle.build.specs.Sweep.{bytesBy}
+use Rattle.scan.proofs.Adding.{near-32}
 use Rattle.build.proofs.sweep.write_bytes.Statement.{statement}
 use Rattle.build.proofs.sweep.write_bytes.Tie as tie
 

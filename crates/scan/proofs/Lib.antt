@@ -1,0 +1,5 @@
+pub mod Under
+pub mod Entries
+pub mod Adding
+pub mod Holding
+pub mod Node

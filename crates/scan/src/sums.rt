@@ -1,0 +1,110 @@
+// The sums below an edge, read off the scan list, and the edge's byte.
+ghost use mathlib.Core.Path.{_≡_};
+ghost use Prim.Native.Nat.{_+_, _-_, _*_, _≤_, _<_};
+ghost use lib.ListN.{length};
+ghost use lib.IntN.{_+ℤ_, natAbs};
+ghost use mir.Syntax.{w64};
+ghost use mir.Val.{SFits};
+ghost use Rattle.whole.specs.Kind.{rowsFrom};
+ghost use Rattle.whole.specs.Sum.{All};
+ghost use Rattle.geom.specs.Plane.{GridSegment};
+ghost use Rattle.scan.specs.Masks.{flag};
+ghost use Rattle.scan.specs.Scan.{entries, EntryOf, OnGrids, addIf, sumsOf, sideBy, maskBy, byteBy};
+use crate::list::Entry;
+use geom::Count;
+use geom::Segment;
+
+pub struct Sums {
+    pub subject: i64,
+    pub clip: i64,
+}
+
+fn plus(a: i64, b: i64) -> i64
+    requires { ⌜ SFits w64 (a +ℤ b) ⌝ }
+    ensures { λ r. ⌜ r ≡ a +ℤ b ⌝ }
+{
+    a + b
+}
+
+fn add_if(hit: bool, s: Sums, t: Entry) -> Sums
+    requires { ⌜ SFits w64 (s .subject +ℤ t .subject) ⌝ }
+    requires { ⌜ SFits w64 (s .clip +ℤ t .clip) ⌝ }
+    ensures { λ r. ⌜ r ≡ addIf hit s t ⌝ }
+{
+    if hit {
+        let subject = plus(s.subject, t.subject);
+        let clip = plus(s.clip, t.clip);
+        return Sums { subject, clip };
+    }
+    s
+}
+
+// The counts of those entries in use that lie below e.
+pub fn sums_below(work: &[i32], n: usize, scan: &[i64], used: usize, e: Segment) -> Sums
+    requires { ⌜ 6 * n ≤ length (now work) ⌝ }
+    requires { ⌜ OnGrids (now work) n ⌝ }
+    requires { ⌜ GridSegment e ⌝ }
+    requires { ⌜ (3 * used ≤ length (now scan)) × (used ≤ 2048) ⌝ }
+    requires { ⌜ All (EntryOf (now work) n) (rowsFrom entries (now scan) 0 used) ⌝ }
+    ensures sums { λ r. ⌜ r ≡ sumsOf (now (work .entry)) e (rowsFrom entries (now (scan .entry)) 0 used) ⌝ }
+    ensures near { λ r. ⌜ (natAbs (r .subject) ≤ 2048 * 2147483648) × (natAbs (r .clip) ≤ 2048 * 2147483648) ⌝ }
+{
+    let mut s = Sums {
+        subject: 0,
+        clip: 0,
+    };
+    for k in 0..used {
+        let t = crate::list::entry_at(scan, k);
+        let v = crate::list::named(work, n, t);
+        let hit = crate::edge::is_below(v, e);
+        s = add_if(hit, s, t);
+    }
+    s
+}
+
+fn bit_if(hit: bool, value: u8) -> u8
+    ensures { λ r. ⌜ r ≡ value * flag hit ⌝ }
+{
+    if hit {
+        return value;
+    }
+    0
+}
+
+// The two bits of one side: 1 where it is inside on top, 2 at the bottom.
+fn side_bits(fill: u32, bottom: i64, count: Count) -> u8
+    requires { ⌜ SFits w64 (bottom +ℤ count .0) ⌝ }
+    ensures { λ r. ⌜ r ≡ sideBy fill bottom (count .0) ⌝ }
+    ensures { λ r. ⌜ r < 4 ⌝ }
+{
+    let top = plus(bottom, turns::wide(count.0));
+    let a = bit_if(rules::inside::inside(fill, top), 1);
+    let b = bit_if(rules::inside::inside(fill, bottom), 2);
+    a + b
+}
+
+// The mask of e, with these sums at its bottom.
+fn mask(fill: u32, s: Sums, e: Segment) -> u8
+    requires { ⌜ SFits w64 (s .subject +ℤ e .subject .0) ⌝ }
+    requires { ⌜ SFits w64 (s .clip +ℤ e .clip .0) ⌝ }
+    ensures { λ r. ⌜ r ≡ maskBy fill s e ⌝ }
+    ensures { λ r. ⌜ r < 16 ⌝ }
+{
+    let subject = side_bits(fill, s.subject, e.subject);
+    let clip = side_bits(fill, s.clip, e.clip);
+    subject + 4 * clip
+}
+
+// A kept edge's byte has 16 added.
+pub fn byte(fill: u32, rule: u32, s: Sums, e: Segment) -> u8
+    requires { ⌜ rule < 7 ⌝ }
+    requires { ⌜ SFits w64 (s .subject +ℤ e .subject .0) ⌝ }
+    requires { ⌜ SFits w64 (s .clip +ℤ e .clip .0) ⌝ }
+    ensures { λ r. ⌜ r ≡ byteBy fill rule s e ⌝ }
+{
+    let m = mask(fill, s, e);
+    if rules::keep::keeps(rule, m) {
+        return m + 16;
+    }
+    m
+}
