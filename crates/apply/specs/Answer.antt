@@ -38,13 +38,6 @@ inOrder n (m ∷ ms) = (names n m && leads m ms) && inOrder n ms
 
 -- ---- the answer
 
--- document 01's number of each answer
-abbrev pub applyNumber : Applied → ℕ
-applyNumber (Pieces k) = 0
-applyNumber Short = 1
-applyNumber BadCount = 5
-applyNumber Full = 8
-
 -- what n segments and `count` marks come to, with room for so many segments
 unfoldable pub outcome : ℕ → List Segment → List Mark → ℕ → ℕ → Applied
 outcome room L ms n count =

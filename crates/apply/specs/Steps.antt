@@ -1,20 +1,14 @@
 -- What the steps of splitting render ("Splitting"), over rows of marks in a flat list.
 use mathlib.Core.Bool.{Bool, cond}
 use mathlib.Core.List.{List, [], _∷_, map}
-use Prim.Native.Nat.{ℕ, zero, suc, _+_, _-_}
+use Prim.Native.Nat.{ℕ, zero, suc, _-_}
 use lib.IntN.{ℤ, pos}
-use lib.ListN.{getD}
 use Rattle.whole.specs.Kind.{rowAt, rowsFrom}
 use Rattle.geom.specs.declared.Point.{Point}
 use Rattle.geom.specs.declared.Segment.{Segment}
 use Rattle.geom.specs.Plane.{point, sameZ}
 use Rattle.segm.specs.Forward.{forward}
-use Rattle.split.specs.declared.answer.Mark.{Mark}
 use Rattle.split.specs.Marks.{marks}
-
--- the mark whose three numbers start at place k
-abbrev pub markFrom : List ℤ → ℕ → Mark
-markFrom l k = record { segment = getD l k (pos 0); point = point (getD l (k + 1) (pos 0)) (getD l (k + 2) (pos 0)) }
 
 -- the point of mark number i, and the points of k marks from number i on
 abbrev pub pointAt : List ℤ → ℕ → Point

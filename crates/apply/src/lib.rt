@@ -4,24 +4,24 @@
 ghost use mathlib.Core.Path.{_≡_};
 ghost use mathlib.Core.Bool.{true, false, cond};
 ghost use Prim.Native.Nat.{_+_, _-_, _*_, _≤_, _<_};
-ghost use lib.IntN.{pos, negsuc};
+ghost use lib.IntN.{pos};
 ghost use lib.ListN.{length};
 ghost use lib.Seq.{sets};
 ghost use lib.Signed.{ltZ};
 ghost use Rattle.whole.specs.Kind.{rowAt, rowsFrom, flat};
-ghost use Rattle.geom.specs.Limits.{markRoom};
 ghost use Rattle.geom.specs.Plane.{Countable, sameZ};
 ghost use Rattle.geom.specs.Rows.{segments};
 ghost use Rattle.checks.specs.Checks.{some, hasLeast};
 ghost use Rattle.split.specs.Marks.{marks as markRows};
 ghost use Rattle.split.specs.Chain.{nextY, lastOf, columns, chain, piecesFrom, split as splitOf};
 ghost use Rattle.apply.specs.Answer.{names as namesOf, earlier as isEarlier, leads as leadsTo, inOrder, applyAnswer, applyList};
-ghost use Rattle.apply.specs.Steps.{markFrom, pointAt, points, pieceOf, piecesTo, taken, joined, startOf};
+ghost use Rattle.apply.specs.Said.{applySays, applySaid};
+ghost use Rattle.apply.specs.Steps.{pointAt, points, pieceOf, piecesTo, taken, joined, startOf};
 use geom::Coord;
-use geom::Count;
 use geom::Point;
 use geom::Segment;
 use split::answer::Mark;
+use split::mark;
 
 pub enum Applied {
     // So many segments.
@@ -37,17 +37,18 @@ pub enum Applied {
 // The first n rows of `work`, cut at the first `count` marks. After 8 the work list is wholly zero.
 pub fn apply(work: &mut [i32], n: usize, marks: &[i32], count: usize) -> Applied
     ensures { λ r. ⌜ r ≡ applyAnswer (now (work .entry)) n (now (marks .entry)) count ⌝ }
+    ensures { λ r. ⌜ applySays r ≡ applySaid (now (work .entry)) n (now (marks .entry)) count ⌝ }
     ensures { λ r. ⌜ now (work .exit) ≡ applyList r (now (work .entry)) n (now (marks .entry)) count ⌝ }
 {
     let room = checks::work_room(work.len());
     if room < n {
         return Applied::Short;
     }
-    if mark_room(marks.len()) < count {
+    if mark::room(marks.len()) < count {
         return Applied::Short;
     }
     if in_order(marks, count, n) {
-        if some_least(work, n) {
+        if checks::some_fault(work, n, 5) {
             return Applied::BadCount;
         }
         if room < n + count {
@@ -58,39 +59,6 @@ pub fn apply(work: &mut [i32], n: usize, marks: &[i32], count: usize) -> Applied
         return Applied::Pieces(n + count);
     }
     Applied::Short
-}
-
-// How many marks a list of so many numbers has room for.
-fn mark_room(numbers: usize) -> usize
-    ensures { λ r. ⌜ r ≡ markRoom numbers ⌝ }
-{
-    let whole = numbers / 3;
-    if 65536 < whole {
-        return 65536;
-    }
-    whole
-}
-
-// Mark number i.
-fn mark(marks: &[i32], i: usize) -> Mark
-    requires { ⌜ 3 * i + 3 ≤ length (now marks) ⌝ }
-    ensures { λ r. ⌜ r ≡ rowAt markRows (now (marks .entry)) i ⌝ }
-{
-    mark_from(marks, 3 * i)
-}
-
-// The mark whose three numbers start at place k.
-fn mark_from(marks: &[i32], k: usize) -> Mark
-    requires { ⌜ k + 3 ≤ length (now marks) ⌝ }
-    ensures { λ r. ⌜ r ≡ markFrom (now (marks .entry)) k ⌝ }
-{
-    Mark {
-        segment: marks[k],
-        point: Point {
-            x: Coord(marks[k + 1]),
-            y: Coord(marks[k + 2]),
-        },
-    }
 }
 
 // The mark is one of segment i.
@@ -137,7 +105,7 @@ fn leads(marks: &[i32], i: usize, count: usize) -> bool
     ensures { λ r. ⌜ r ≡ leadsTo (rowAt markRows (now (marks .entry)) i) (rowsFrom markRows (now (marks .entry)) (i + 1) (count - (i + 1))) ⌝ }
 {
     if i + 1 < count {
-        return earlier(mark(marks, i), mark(marks, i + 1));
+        return earlier(mark::read(marks, i), mark::read(marks, i + 1));
     }
     true
 }
@@ -148,7 +116,7 @@ fn in_order(marks: &[i32], count: usize, n: usize) -> bool
     ensures { λ r. ⌜ r ≡ inOrder n (rowsFrom markRows (now (marks .entry)) 0 count) ⌝ }
 {
     for i in 0..count {
-        if names(mark(marks, i), n) {} else {
+        if names(mark::read(marks, i), n) {} else {
             return false;
         }
         if leads(marks, i, count) {} else {
@@ -156,33 +124,6 @@ fn in_order(marks: &[i32], count: usize, n: usize) -> bool
         }
     }
     true
-}
-
-fn is_least(c: Count) -> bool
-    ensures { λ r. ⌜ r ≡ sameZ (c .0) (negsuc 2147483647) ⌝ }
-{
-    c.0 == -2147483648
-}
-
-fn has_least(v: Segment) -> bool
-    ensures { λ r. ⌜ r ≡ hasLeast v ⌝ }
-{
-    if is_least(v.subject) {
-        return true;
-    }
-    is_least(v.clip)
-}
-
-fn some_least(work: &[i32], n: usize) -> bool
-    requires { ⌜ 6 * n ≤ length (now work) ⌝ }
-    ensures { λ r. ⌜ r ≡ some hasLeast (rowsFrom segments (now (work .entry)) 0 n) ⌝ }
-{
-    for i in 0..n {
-        if has_least(geom::read(work, i)) {
-            return true;
-        }
-    }
-    false
 }
 
 // Every segment from the last to the first, each with the run of its marks.
@@ -214,7 +155,7 @@ fn run_start(marks: &[i32], i: usize, e: usize) -> usize
 {
     let mut a = e;
     while 0 < a {
-        if is_of(mark(marks, a - 1), i) {} else {
+        if is_of(mark::read(marks, a - 1), i) {} else {
             return a;
         }
         a -= 1;
@@ -249,9 +190,9 @@ fn column_end(run: &[i32], g: usize, size: usize) -> usize
     ensures { λ r. ⌜ (g < r) × (r ≤ size) ⌝ }
 {
     let mut e = g + 1;
-    let mut p = mark(run, g).point;
+    let mut p = mark::read(run, g).point;
     while e < size {
-        let q = mark(run, e).point;
+        let q = mark::read(run, e).point;
         if order::same(p.x, q.x) {} else {
             return e;
         }
@@ -268,7 +209,7 @@ fn next_y(run: &[i32], e: usize, size: usize, b: Point) -> Coord
     ensures { λ r. ⌜ r .0 ≡ nextY b (columns (points (now (run .entry)) e (size - e))) ⌝ }
 {
     if e < size {
-        return mark(run, e).point.y;
+        return mark::read(run, e).point.y;
     }
     b.y
 }
@@ -309,9 +250,9 @@ fn next_point(column: &[i32], size: usize, left: usize, back: bool) -> Point
     ensures { λ r. ⌜ r ≡ pointAt (now (column .entry)) (cond back (left - 1) (size - left)) ⌝ }
 {
     if back {
-        return mark(column, left - 1).point;
+        return mark::read(column, left - 1).point;
     }
-    mark(column, size - left).point
+    mark::read(column, size - left).point
 }
 
 // The piece of v from p to q, turned if needed.

@@ -25,8 +25,8 @@ isBad s = (ltb 3 (s .fill) || ltb 6 (s .rule)) || (eqb (s .budget) 0 || ltb 64 (
 
 -- some segment has the fault
 unfoldable pub some : (Segment → Bool) → List Segment → Bool
-some fault [] = false
-some fault (v ∷ L) = fault v || some fault L
+some has [] = false
+some has (v ∷ L) = has v || some has L
 
 -- 3
 abbrev pub isOff : Segment → Bool
@@ -39,6 +39,10 @@ isPoint v = samePoint (v .a) (v .b)
 -- 5
 abbrev pub hasLeast : Segment → Bool
 hasLeast v = sameZ (v .subject .0) (negsuc 2147483647) || sameZ (v .clip .0) (negsuc 2147483647)
+
+-- these three by their numbers
+abbrev pub fault : ℕ → Segment → Bool
+fault k = cond (eqb k 3) isOff (cond (eqb k 4) isPoint hasLeast)
 
 -- 6
 abbrev pub isOpen : List Segment → Bool
@@ -55,12 +59,23 @@ faultOf input s work masks =
     (cond (some hasLeast L) BadCount
     (cond (isOpen L) Open Sound)))))
 
--- its number in the table, and 0 for none
-abbrev pub number : Fault → ℕ
-number Sound = 0
-number Short = 1
-number BadSettings = 2
-number OffGrid = 3
-number NoLength = 4
-number BadCount = 5
-number Open = 6
+-- the number of each answer
+abbrev pub checkSays : Fault → ℕ
+checkSays Sound = 0
+checkSays Short = 1
+checkSays BadSettings = 2
+checkSays OffGrid = 3
+checkSays NoLength = 4
+checkSays BadCount = 5
+checkSays Open = 6
+
+-- the table: 1 to 6 in order, and 0 for none
+unfoldable pub checkSaid : List ℤ → Settings → ℕ → ℕ → ℕ
+checkSaid input s work masks =
+    let L = rowsFrom segments input 0 (s .n) in
+    cond (isShort (s .n) (length input) work masks) 1
+    (cond (isBad s) 2
+    (cond (some (fault 3) L) 3
+    (cond (some (fault 4) L) 4
+    (cond (some (fault 5) L) 5
+    (cond (isOpen L) 6 0)))))

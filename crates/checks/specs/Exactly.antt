@@ -1,5 +1,5 @@
 -- Refusals 1 to 6 in the words of the table ("Input and answer"), and the theorem: each is given exactly when no earlier one applies and its sentence holds.
-use mathlib.Core.Path.{_≡_, refl, subst}
+use mathlib.Core.Path.{_≡_, refl, ap, subst, _∙_}
 use mathlib.Core.Bool.{Bool, true, false, not, cond, _&&_}
 use mathlib.Core.List.{List, [], _∷_}
 use mathlib.Core.Logic.{_↔_, _⊎_, inl, inr, ⊎-elim}
@@ -25,7 +25,7 @@ use Rattle.segm.specs.BalanceLaws.{Uneven, uneven?}
 use Rattle.checks.specs.declared.Fault.{Fault}
 use Rattle.checks.specs.declared.Fault.the-variants.{Sound, Short, BadSettings, OffGrid, NoLength, BadCount, Open}
 use Rattle.checks.specs.declared.Settings.{Settings}
-use Rattle.checks.specs.Checks.{isShort, isBad, some, isOff, isPoint, hasLeast, isOpen, faultOf}
+use Rattle.checks.specs.Checks.{isShort, isBad, some, isOff, isPoint, hasLeast, isOpen, faultOf, checkSays, checkSaid}
 
 -- ---- the sentences
 
@@ -192,3 +192,20 @@ exactly input s work masks f =
       λ e. subst (λ g. Given input s work masks g) e (is-first one (bad? s) (has? off? L) (has? point? L) (has? least? L) (open? L)),
       only-first one (bad? s) (has? off? L) (has? point? L) (has? least? L) (open? L) f,
     )
+
+-- ---- in numbers
+
+pub also-said : (input : List ℤ) (s : Settings) (work masks : ℕ) {r : Fault} → r ≡ faultOf input s work masks → (r ≡ faultOf input s work masks) × (checkSays r ≡ checkSaid input s work masks)
+unfolding faultOf checkSaid
+also-said input s work masks e =
+    let L = rowsFrom segments input 0 (s .n) in
+    (e, ap checkSays e ∙ by-tests (isShort (s .n) (length input) work masks) (isBad s) (some isOff L) (some isPoint L) (some hasLeast L) (isOpen L))
+  where
+    by-tests : (a b c d e f : Bool) → checkSays (chosen a b c d e f) ≡ cond a 1 (cond b 2 (cond c 3 (cond d 4 (cond e 5 (cond f 6 0)))))
+    by-tests true b c d e f = refl
+    by-tests false true c d e f = refl
+    by-tests false false true d e f = refl
+    by-tests false false false true e f = refl
+    by-tests false false false false true f = refl
+    by-tests false false false false false true = refl
+    by-tests false false false false false false = refl

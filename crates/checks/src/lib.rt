@@ -1,13 +1,13 @@
 // The first step of a run: the input is checked, and nothing is changed.
 ghost use mathlib.Core.Path.{_≡_};
 ghost use Prim.Native.Nat.{_+_, _*_, _≤_};
-ghost use lib.IntN.{natAbs, pos, negsuc, _+ℤ_, _-ℤ_};
+ghost use lib.IntN.{natAbs, negsuc, _-ℤ_};
 ghost use lib.ListN.{length};
 ghost use Rattle.whole.specs.Kind.{rowsFrom};
 ghost use Rattle.geom.specs.Plane.{sameZ};
 ghost use Rattle.geom.specs.Limits.{workRoom};
 ghost use Rattle.geom.specs.Rows.{segments};
-ghost use Rattle.checks.specs.Checks.{isShort, isBad, some, isOff, isPoint, hasLeast, isOpen, faultOf};
+ghost use Rattle.checks.specs.Checks.{isShort, isBad, some, hasLeast, fault, isOpen, faultOf, checkSays, checkSaid};
 ghost use Rattle.checks.specs.Net.{startedAt, endedAt, netAt, isUneven, hasOpenEnd};
 use geom::Count;
 use geom::Point;
@@ -46,6 +46,7 @@ struct Net {
 // The first fault there is, from the input, the settings and how many numbers the work list and the masks have.
 pub fn check(input: &[i32], settings: Settings, work: usize, masks: usize) -> Fault
     ensures { λ r. ⌜ r ≡ faultOf (now (input .entry)) settings work masks ⌝ }
+    ensures { λ r. ⌜ checkSays r ≡ checkSaid (now (input .entry)) settings work masks ⌝ }
 {
     let n = settings.n;
     if short(n, input.len(), work, masks) {
@@ -54,13 +55,13 @@ pub fn check(input: &[i32], settings: Settings, work: usize, masks: usize) -> Fa
     if bad(settings) {
         return Fault::BadSettings;
     }
-    if some_off(input, n) {
+    if some_fault(input, n, 3) {
         return Fault::OffGrid;
     }
-    if some_point(input, n) {
+    if some_fault(input, n, 4) {
         return Fault::NoLength;
     }
-    if some_least(input, n) {
+    if some_fault(input, n, 5) {
         return Fault::BadCount;
     }
     if some_open(input, n) {
@@ -111,52 +112,29 @@ fn bad(settings: Settings) -> bool
     64 < settings.budget
 }
 
-fn some_off(rows: &[i32], n: usize) -> bool
+// 3 to 5: some row has the fault of that number.
+pub fn some_fault(rows: &[i32], n: usize, number: u8) -> bool
     requires { ⌜ 6 * n ≤ length (now rows) ⌝ }
-    ensures { λ r. ⌜ r ≡ some isOff (rowsFrom segments (now (rows .entry)) 0 n) ⌝ }
+    ensures { λ r. ⌜ r ≡ some (fault number) (rowsFrom segments (now (rows .entry)) 0 n) ⌝ }
 {
     for i in 0..n {
-        if off(geom::read(rows, i)) {
+        if has_fault(geom::read(rows, i), number) {
             return true;
         }
     }
     false
 }
 
-fn some_point(rows: &[i32], n: usize) -> bool
-    requires { ⌜ 6 * n ≤ length (now rows) ⌝ }
-    ensures { λ r. ⌜ r ≡ some isPoint (rowsFrom segments (now (rows .entry)) 0 n) ⌝ }
+fn has_fault(v: Segment, number: u8) -> bool
+    ensures { λ r. ⌜ r ≡ fault number v ⌝ }
 {
-    for i in 0..n {
-        if point(geom::read(rows, i)) {
-            return true;
-        }
+    if number == 3 {
+        return !order::segment_on_grid(v);
     }
-    false
-}
-
-fn some_least(rows: &[i32], n: usize) -> bool
-    requires { ⌜ 6 * n ≤ length (now rows) ⌝ }
-    ensures { λ r. ⌜ r ≡ some hasLeast (rowsFrom segments (now (rows .entry)) 0 n) ⌝ }
-{
-    for i in 0..n {
-        if least(geom::read(rows, i)) {
-            return true;
-        }
+    if number == 4 {
+        return order::same_point(v.a, v.b);
     }
-    false
-}
-
-fn off(v: Segment) -> bool
-    ensures { λ r. ⌜ r ≡ isOff v ⌝ }
-{
-    !order::segment_on_grid(v)
-}
-
-fn point(v: Segment) -> bool
-    ensures { λ r. ⌜ r ≡ isPoint v ⌝ }
-{
-    order::same_point(v.a, v.b)
+    least(v)
 }
 
 fn least(v: Segment) -> bool
@@ -202,16 +180,10 @@ fn open_end(rows: &[i32], n: usize, v: Segment) -> bool
 fn uneven(net: Net) -> bool
     ensures { λ r. ⌜ r ≡ isUneven net ⌝ }
 {
-    if zero(net.subject) {
-        return !zero(net.clip);
+    if segm::zero(net.subject) {
+        return !segm::zero(net.clip);
     }
     true
-}
-
-fn zero(z: i64) -> bool
-    ensures { λ r. ⌜ r ≡ sameZ z (pos 0) ⌝ }
-{
-    z == 0
 }
 
 fn net_at(rows: &[i32], n: usize, p: Point) -> Net
@@ -238,8 +210,8 @@ fn started(net: Net, v: Segment, p: Point) -> Net
     ensures { λ r. ⌜ (natAbs (r .subject) ≤ natAbs (net .subject) + 2147483648) × (natAbs (r .clip) ≤ natAbs (net .clip) + 2147483648) ⌝ }
 {
     if order::same_point(p, v.a) {
-        let subject = plus(net.subject, v.subject);
-        let clip = plus(net.clip, v.clip);
+        let subject = segm::total(net.subject, v.subject);
+        let clip = segm::total(net.clip, v.clip);
         return Net { subject, clip };
     }
     net
@@ -260,15 +232,7 @@ fn ended(net: Net, v: Segment, p: Point) -> Net
     net
 }
 
-// A count more and a count less: 4,096 of them stay within 64 bits.
-fn plus(sum: i64, c: Count) -> i64
-    requires { ⌜ natAbs sum ≤ 4096 * 2147483648 ⌝ }
-    ensures { λ r. ⌜ r ≡ sum +ℤ c .0 ⌝ }
-    ensures { λ r. ⌜ natAbs r ≤ natAbs sum + 2147483648 ⌝ }
-{
-    sum + c.0 as i64
-}
-
+// A count less.
 fn less(sum: i64, c: Count) -> i64
     requires { ⌜ natAbs sum ≤ 4096 * 2147483648 ⌝ }
     ensures { λ r. ⌜ r ≡ sum -ℤ c .0 ⌝ }

@@ -21,7 +21,7 @@ use Rattle.split.specs.Look.{look}
 use Rattle.checks.specs.declared.Settings.{Settings}
 use Rattle.checks.specs.declared.Fault.{Fault}
 use Rattle.checks.specs.declared.Fault.the-variants.{Sound, Short, BadSettings, OffGrid, NoLength, BadCount, Open}
-use Rattle.checks.specs.Checks.{number, faultOf}
+use Rattle.checks.specs.Checks.{checkSays, faultOf}
 use Rattle.checks.specs.Exactly.{Given, exactly as exactly-fault}
 use Rattle.overlay.specs.declared.answer.Answer.the-variants.{ScanFull}
 use Rattle.overlay.specs.Looks.{Ran, settled, radius, joined, lookAt, looksFrom, ran}
@@ -66,7 +66,7 @@ module _ (input : List ℤ) (s : Settings) (l : Lent) where
   LooksAt = Comes (markRoom (length (l .marks))) (workRoom (length (l .work))) (s .budget - 1) (start L₀)
 
   pub data Answers : ℕ → Type 0 where
-    by-check : (f : Fault) → number f ≢ 0 → Checked f → Answers (number f)
+    by-check : (f : Fault) → checkSays f ≢ 0 → Checked f → Answers (checkSays f)
     by-first-9 : Checked Sound → TotalLeaves (sorted (map forward L₀)) → Answers 9
     by-look : {k left : ℕ} {K : List Segment} → Checked Sound → ¬ TotalLeaves (sorted (map forward L₀)) → LooksAt left K
         → Met (markRoom (length (l .marks))) (workRoom (length (l .work))) (scanRoom (length (l .scan))) left K k → Answers k
@@ -174,7 +174,7 @@ module _ (marks work : ℕ) where
 -- ---- the outcome
 
 module _ (input : List ℤ) (s : Settings) (l : Lent) where
-  fault-number : (f : Fault) (r : Outcome) → number f ≢ 0 → unless f l r .answer .number ≡ number f
+  fault-number : (f : Fault) (r : Outcome) → checkSays f ≢ 0 → unless f l r .answer .number ≡ checkSays f
   unfolding unless
   fault-number Sound r n = absurd (n refl)
   fault-number Short r n = refl

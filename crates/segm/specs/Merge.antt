@@ -85,15 +85,24 @@ mergeAnswer xs n = cond (tooShort xs n) Short (answerOf (rowsFrom segments xs 0 
 unfoldable pub mergeList : List ℤ → ℕ → List ℤ
 mergeList xs n = cond (tooShort xs n) xs (listOf xs (rowsFrom segments xs 0 n))
 
--- document 01's number of each answer, and whether it returns true
-abbrev pub mergeNumber : Merged → ℕ
-mergeNumber (Joined m) = 0
-mergeNumber (Same m) = 0
-mergeNumber Short = 1
-mergeNumber TooBig = 9
+-- ---- the same in document 01's numbers: the number of the table, whether true is returned, and how many segments are left
 
-abbrev pub mergeTrue : Merged → Bool
-mergeTrue (Joined m) = true
-mergeTrue (Same m) = false
-mergeTrue Short = false
-mergeTrue TooBig = false
+pub record Said : Type 0 where
+  pub answer : ℕ
+  pub joined : Bool
+  pub segments : ℕ
+
+-- a refusal returns neither
+abbrev pub only : ℕ → Said
+only k = record { answer = k; joined = false; segments = 0 }
+
+abbrev pub mergeSays : Merged → Said
+mergeSays (Joined m) = record { answer = 0; joined = true; segments = m }
+mergeSays (Same m) = record { answer = 0; joined = false; segments = m }
+mergeSays Short = only 1
+mergeSays TooBig = only 9
+
+unfoldable pub mergeSaid : List ℤ → ℕ → Said
+mergeSaid xs n =
+    let L = rowsFrom segments xs 0 n in
+    cond (tooShort xs n) (only 1) (cond (tooBig L) (only 9) (record { answer = 0; joined = paired L; segments = length (merged L) }))

@@ -1,7 +1,7 @@
--- When merging answers which number (`enough`, `merge-says`), and what it gives, from what the groups of equal neighbours have: merged L is some of `groups L` in their order. So its ends are ends of L
+-- When merging answers which number (`enough`, `also-said`), and what it gives, from what the groups of equal neighbours have: merged L is some of `groups L` in their order. So its ends are ends of L
 -- (`merged-ends`), it is no longer (`merged-length`), its counts are within ±(2^31 - 1) unless 9 is answered (`merged-near`), and of a list that stands by
 -- its ends no two are left with the same ends (`merged-strict`).
-use mathlib.Core.Path.{_≡_, refl}
+use mathlib.Core.Path.{_≡_, refl, ap, _∙_}
 use mathlib.Core.Bool.{Bool, true, false, not, cond, _||_}
 use mathlib.Core.List.{List, [], _∷_}
 use mathlib.Core.Logic.{inl, inr}
@@ -22,9 +22,10 @@ use Rattle.geom.specs.Tests.{Decides, and, when-false, samePoint?}
 use Rattle.whole.specs.Kind.{rowsFrom}
 use Rattle.geom.specs.Limits.{segmentLimit}
 use Rattle.geom.specs.Rows.{segments}
+use Rattle.segm.specs.declared.Merged.{Merged}
 use Rattle.segm.specs.declared.Merged.the-variants.{Joined, Same, Short, TooBig}
 use Rattle.segm.specs.Forward.{sorted}
-use Rattle.segm.specs.Merge.{sameEnds, plus, groupsFrom, groups, isEmpty, mergedFrom, merged, paired, isFar, anyFar, tooBig, tooShort, mergeAnswer, mergeNumber, mergeTrue}
+use Rattle.segm.specs.Merge.{sameEnds, plus, groupsFrom, groups, isEmpty, mergedFrom, merged, paired, isFar, anyFar, tooBig, tooShort, mergeAnswer, only, mergeSays, mergeSaid}
 use Rattle.segm.specs.Order.{EndsBefore, by-a, by-b, SameEnds, EndsUpto, ends-trans, by-ends}
 
 pub sameEnds? : (u v : Segment) → Decides (SameEnds u v) (sameEnds u v)
@@ -58,17 +59,16 @@ module _ (xs : List ℤ) (n : ℕ) where
   unfolding tooShort
   enough h k = rw (le-ltb segmentLimit n h, le-ltb (length xs) (6 * n) k)
 
-  -- 1 where the list is too short, else 9 where a total is outside, else 0; true exactly if neither and there is an equal pair
-  pub merge-says : (mergeNumber (mergeAnswer xs n) ≡ cond (tooShort xs n) 1 (cond (tooBig (rowsFrom segments xs 0 n)) 9 0))
-      × (mergeTrue (mergeAnswer xs n) ≡ cond (tooShort xs n) false (cond (tooBig (rowsFrom segments xs 0 n)) false (paired (rowsFrom segments xs 0 n))))
-  unfolding mergeAnswer
-  merge-says = let L = rowsFrom segments xs 0 n in go (tooShort xs n) (tooBig L) (paired L) (length (merged L))
+  -- an answer is that number and those values
+  pub also-said : {P : Type 0} {r : Merged} → (r ≡ mergeAnswer xs n) × P → (r ≡ mergeAnswer xs n) × ((mergeSays r ≡ mergeSaid xs n) × P)
+  unfolding mergeAnswer mergeSaid
+  also-said e = let L = rowsFrom segments xs 0 n in (e .0, (ap mergeSays (e .0) ∙ by-tests (tooShort xs n) (tooBig L) (paired L) (length (merged L)), e .1))
     where
-      go : (s t p : Bool) (k : ℕ) → let r = cond s Short (cond t TooBig (cond p (Joined k) (Same k))) in (mergeNumber r ≡ cond s 1 (cond t 9 0)) × (mergeTrue r ≡ cond s false (cond t false p))
-      go true t p k = (refl, refl)
-      go false true p k = (refl, refl)
-      go false false true k = (refl, refl)
-      go false false false k = (refl, refl)
+      by-tests : (s t p : Bool) (k : ℕ) → mergeSays (cond s Short (cond t TooBig (cond p (Joined k) (Same k)))) ≡ cond s (only 1) (cond t (only 9) (record { answer = 0; joined = p; segments = k }))
+      by-tests true t p k = refl
+      by-tests false true p k = refl
+      by-tests false false true k = refl
+      by-tests false false false k = refl
 
 -- ---- some of the groups, in their order
 

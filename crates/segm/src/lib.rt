@@ -10,7 +10,7 @@ ghost use Rattle.whole.specs.Kind.{flat, rowsFrom};
 ghost use Rattle.geom.specs.Plane.{Countable, sameZ};
 ghost use Rattle.geom.specs.Rows.{segments};
 ghost use Rattle.segm.specs.Forward.{forward as forwardOf};
-ghost use Rattle.segm.specs.Merge.{sameEnds, isFar, mergeAnswer, mergeList, answerOf, listOf};
+ghost use Rattle.segm.specs.Merge.{sameEnds, isFar, mergeAnswer, mergeList, answerOf, listOf, mergeSays, mergeSaid};
 ghost use Rattle.segm.specs.Group.{joint, alone as aloneOf, withOne, farGroup, isDropped, left};
 use geom::Count;
 use geom::Point;
@@ -50,6 +50,7 @@ pub fn forward(v: Segment) -> Segment
 // The first n rows become their merged segments, in place, and the rest stays. After 9 the list is wholly zero.
 pub fn merge(work: &mut [i32], n: usize) -> Merged
     ensures { λ r. ⌜ r ≡ mergeAnswer (now (work .entry)) n ⌝ }
+    ensures { λ r. ⌜ mergeSays r ≡ mergeSaid (now (work .entry)) n ⌝ }
     ensures { λ r. ⌜ now (work .exit) ≡ mergeList (now (work .entry)) n ⌝ }
 {
     if 2048 < n {
@@ -140,8 +141,8 @@ fn alone(v: Segment, met: bool) -> Group
 }
 
 fn join(g: Group, v: Segment) -> Group
-    requires { ⌜ natAbs (g .subject) ≤ 2048 * 2147483648 ⌝ }
-    requires { ⌜ natAbs (g .clip) ≤ 2048 * 2147483648 ⌝ }
+    requires { ⌜ natAbs (g .subject) ≤ 4096 * 2147483648 ⌝ }
+    requires { ⌜ natAbs (g .clip) ≤ 4096 * 2147483648 ⌝ }
     ensures { λ r. ⌜ r ≡ withOne g v ⌝ }
     ensures { λ r. ⌜ (natAbs (r .subject) ≤ natAbs (g .subject) + 2147483648) × (natAbs (r .clip) ≤ natAbs (g .clip) + 2147483648) ⌝ }
 {
@@ -158,9 +159,9 @@ fn join(g: Group, v: Segment) -> Group
     }
 }
 
-// One count more: 2,048 of them and more stay within 64 bits.
-fn total(sum: i64, c: Count) -> i64
-    requires { ⌜ natAbs sum ≤ 2048 * 2147483648 ⌝ }
+// One count more: 4,096 of them and more stay within 64 bits.
+pub fn total(sum: i64, c: Count) -> i64
+    requires { ⌜ natAbs sum ≤ 4096 * 2147483648 ⌝ }
     ensures { λ r. ⌜ r ≡ sum +ℤ c .0 ⌝ }
     ensures { λ r. ⌜ natAbs r ≤ natAbs sum + 2147483648 ⌝ }
 {
@@ -196,7 +197,7 @@ fn dropped(g: Group) -> bool
     false
 }
 
-fn zero(z: i64) -> bool
+pub fn zero(z: i64) -> bool
     ensures { λ r. ⌜ r ≡ sameZ z (pos 0) ⌝ }
 {
     z == 0

@@ -15,14 +15,6 @@ use Rattle.checks.specs.Checks.{some, isOff, isPoint}
 use Rattle.split.specs.Marks.{marks}
 use Rattle.split.specs.Look.{look}
 
--- document 01's number of each answer
-abbrev pub lookNumber : Looked → ℕ
-lookNumber (Marks k) = 0
-lookNumber Short = 1
-lookNumber OffGrid = 3
-lookNumber NoLength = 4
-lookNumber MarksFull = 7
-
 -- 7 exactly if the look yields more marks, repeats counted, than the list has room for
 unfoldable pub counted : ℕ → List Mark → Looked
 counted room ms = cond (ltb room (length ms)) MarksFull (Marks (length ms))

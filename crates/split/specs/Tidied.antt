@@ -13,11 +13,6 @@ use Rattle.split.specs.declared.answer.Tidied.the-variants.{Distinct, Sh
 use Rattle.split.specs.Marks.{marks}
 use Rattle.split.specs.Look.{markOrder, tidy}
 
--- document 01's number of each answer
-abbrev pub tidyNumber : Tidied → ℕ
-tidyNumber (Distinct k) = 0
-tidyNumber Short = 1
-
 -- 1 where the first `count` marks are more than the list's capacity
 unfoldable pub tidyAnswer : List ℤ → ℕ → Tidied
 tidyAnswer xs count = cond (ltb (markRoom (length xs)) count) Short (Distinct (length (tidy (rowsFrom marks xs 0 count))))

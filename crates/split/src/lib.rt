@@ -1,5 +1,5 @@
 // The look over every pair, and its marks in order (split/solver.rs).
 pub mod answer;
 pub mod look;
-mod mark;
+pub mod mark;
 pub mod tidy;

@@ -10,10 +10,10 @@ ghost use Rattle.geom.specs.Limits.{markRoom};
 ghost use Rattle.geom.specs.Plane.{GridSegment};
 ghost use Rattle.geom.specs.Rows.{segments};
 ghost use Rattle.checks.specs.Checks.{some, isOff};
-ghost use Rattle.split.specs.Faults.{firstFault};
 ghost use Rattle.split.specs.Marks.{marks as markRows};
 ghost use Rattle.split.specs.Look.{mark as markAt, one, lineMarks, pairMarks, look as marksOf};
 ghost use Rattle.split.specs.Looked.{counted, lookAnswer, lookList};
+ghost use Rattle.split.specs.Said.{lookSays, lookSaid};
 use crate::answer::Looked;
 use crate::answer::Mark;
 use crate::mark;
@@ -25,6 +25,7 @@ use geom::Segment;
 // Every pair i < j of the first n segments, i target and j other, with the squared radius of snapping: their marks stand at the front of the list.
 pub fn look(work: &[i32], n: usize, radius: u64, marks: &mut [i32]) -> Looked
     ensures { λ r. ⌜ r ≡ lookAnswer radius (now (work .entry)) n (now (marks .entry)) ⌝ }
+    ensures { λ r. ⌜ lookSays r ≡ lookSaid radius (now (work .entry)) n (now (marks .entry)) ⌝ }
     ensures { λ r. ⌜ now (marks .exit) ≡ lookList r (marksOf radius (rowsFrom segments (now (work .entry)) 0 n)) (now (marks .entry)) ⌝ }
 {
     if 2048 < n {
@@ -33,33 +34,13 @@ pub fn look(work: &[i32], n: usize, radius: u64, marks: &mut [i32]) -> Looked
     if work.len() < 6 * n {
         return Looked::Short;
     }
-    let fault = first_fault(work, n);
-    if fault == 3 {
+    if checks::some_fault(work, n, 3) {
         return Looked::OffGrid;
     }
-    if fault == 4 {
+    if checks::some_fault(work, n, 4) {
         return Looked::NoLength;
     }
     pairs(work, n, radius, marks)
-}
-
-// 3 if a segment is off the grid, otherwise 4 if one has a = b, otherwise 0.
-fn first_fault(work: &[i32], n: usize) -> u8
-    requires { ⌜ 6 * n ≤ length (now work) ⌝ }
-    ensures { λ r. ⌜ r ≡ firstFault 0 (rowsFrom segments (now (work .entry)) 0 n) ⌝ }
-{
-    let mut fault: u8 = 0;
-    for i in 0..n {
-        let v = geom::read(work, i);
-        if order::segment_on_grid(v) {
-            if order::same_point(v.a, v.b) {
-                fault = 4;
-            }
-        } else {
-            return 3;
-        }
-    }
-    fault
 }
 
 // The look ends at once when the list is full and another mark comes; it is then cleared.

@@ -11,7 +11,7 @@ use geom::Coord;
 use geom::Point;
 
 // Mark number i.
-pub(crate) fn read(marks: &[i32], i: usize) -> Mark
+pub fn read(marks: &[i32], i: usize) -> Mark
     requires { ⌜ 3 * i + 3 ≤ length (now marks) ⌝ }
     ensures { λ r. ⌜ r ≡ rowAt markRows (now (marks .entry)) i ⌝ }
 {
@@ -56,7 +56,7 @@ pub(crate) fn same(m: Mark, n: Mark) -> bool
 }
 
 // How many marks a list of so many numbers takes: whole entries, cut to 65,536.
-pub(crate) fn room(numbers: usize) -> usize
+pub fn room(numbers: usize) -> usize
     ensures { λ r. ⌜ r ≡ markRoom numbers ⌝ }
 {
     let whole = numbers / 3;

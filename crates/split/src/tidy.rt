@@ -7,12 +7,14 @@ ghost use Rattle.whole.specs.Kind.{rowsFrom};
 ghost use Rattle.split.specs.Marks.{marks as markRows};
 ghost use Rattle.split.specs.Look.{sameMark};
 ghost use Rattle.split.specs.Tidied.{tidyAnswer, tidyList};
+ghost use Rattle.split.specs.Said.{tidySays, tidySaid};
 use crate::answer::Tidied;
 use crate::mark;
 
 // The first `count` marks, sorted by segment, x and y, lose their repeats where they stand.
 pub fn tidy(marks: &mut [i32], count: usize) -> Tidied
     ensures { λ r. ⌜ r ≡ tidyAnswer (now (marks .entry)) count ⌝ }
+    ensures { λ r. ⌜ tidySays r ≡ tidySaid (now (marks .entry)) count ⌝ }
     ensures { λ r. ⌜ now (marks .exit) ≡ tidyList r (now (marks .entry)) count ⌝ }
 {
     if mark::room(marks.len()) < count {

@@ -2,6 +2,7 @@
 use mathlib.Core.Path.{refl, sym, _∙_}
 use native.Mathlib.Omega.{arith}
 use Rattle.apply.specs.Answer.{applyList}
+use Rattle.apply.specs.Said.{also-said}
 use Rattle.apply.proofs.Answered.{too-long, too-many, unordered, bad-count, no-room, all-cut, at-front}
 use borrow.Author.Needs.{needs}
 use Rattle.apply.proofs.apply.Statement.{statement}
@@ -14,22 +15,22 @@ returns : tie.Need-returns
 unfolding applyList
 returns c =
     let x = c .before .before .args in
-    (sym (too-long (x .work .now) (x .n) (x .marks .now) (x .count) (omega arith)), refl)
+    also-said _ _ _ _ (sym (too-long (x .work .now) (x .n) (x .marks .now) (x .count) (omega arith)), refl)
 
-mark-room-requires : tie.Need-mark-room-requires
-mark-room-requires c κs = search needs
+room-requires : tie.Need-room-requires
+room-requires c κs = search needs
 
 returns-2 : tie.Need-returns-2
 unfolding applyList
 returns-2 c =
     let x = c .before .before .before .before .args in
-    (sym (too-many (x .work .now) (x .n) (x .marks .now) (x .count) (omega arith) (omega arith)), refl)
+    also-said _ _ _ _ (sym (too-many (x .work .now) (x .n) (x .marks .now) (x .count) (omega arith) (omega arith)), refl)
 
 in-order-requires : tie.Need-in-order-requires
 in-order-requires c κs = search needs
 
-some-least-requires : tie.Need-some-least-requires
-some-least-requires c κs = search needs
+some-fault-requires : tie.Need-some-fault-requires
+some-fault-requires c κs = search needs
 
 same-length : tie.Need-same-length
 same-length c = search needs
@@ -40,8 +41,8 @@ returns-3 c =
     let o = c .before .before .before in
     let x = o .before .before .before .before .before .before .args in
     let ordered = sym (o .before .in-order .ensures) ∙ o .if3 .taken in
-    let least = sym (c .before .some-least .ensures) ∙ c .if4 .taken in
-    (sym (bad-count (x .work .now) (x .n) (x .marks .now) (x .count) (omega arith) (omega arith) ordered least), refl)
+    let least = sym (c .before .some-fault .ensures) ∙ c .if4 .taken in
+    also-said _ _ _ _ (sym (bad-count (x .work .now) (x .n) (x .marks .now) (x .count) (omega arith) (omega arith) ordered least), refl)
 
 add-if5 : tie.Need-add-if5
 add-if5 c = search needs
@@ -60,15 +61,15 @@ returns-4 c =
     let o = e .before .before .before in
     let x = o .before .before .before .before .before .before .args in
     let ordered = sym (o .before .in-order .ensures) ∙ o .if3 .taken in
-    let least = sym (e .before .some-least .ensures) ∙ e .if4 .left in
-    (sym (no-room (x .work .now) (x .n) (x .marks .now) (x .count) (omega arith) (omega arith) ordered least (omega arith)), k .clear-i32 .ensures)
+    let least = sym (e .before .some-fault .ensures) ∙ e .if4 .left in
+    also-said _ _ _ _ (sym (no-room (x .work .now) (x .n) (x .marks .now) (x .count) (omega arith) (omega arith) ordered least (omega arith)), k .clear-i32 .ensures)
 
 cut-all-requires : tie.Need-cut-all-requires
 cut-all-requires c κs =
     let e = c .before .before in
     let o = e .before .before .before in
     let ordered = sym (o .before .in-order .ensures) ∙ o .if3 .taken in
-    let least = sym (e .before .some-least .ensures) ∙ e .if4 .left in
+    let least = sym (e .before .some-fault .ensures) ∙ e .if4 .left in
     (omega arith, (search needs, (search needs, (ordered, least))))
 
 add-t13 : tie.Need-add-t13
@@ -85,7 +86,8 @@ returns-5 c =
     let o = e .before .before .before in
     let x = o .before .before .before .before .before .before .args in
     let ordered = sym (o .before .in-order .ensures) ∙ o .if3 .taken in
-    let least = sym (e .before .some-least .ensures) ∙ e .if4 .left in (
+    let least = sym (e .before .some-fault .ensures) ∙ e .if4 .left in
+    also-said _ _ _ _ (
       sym (all-cut (x .work .now) (x .n) (x .marks .now) (x .count) (omega arith) (omega arith) ordered least (omega arith)),
       k .cut-all .ensures ∙ at-front (x .work .now) (x .n) (x .marks .now) (x .count) (omega arith) ordered,
     )
@@ -95,7 +97,7 @@ unfolding applyList
 returns-6 c =
     let x = c .before .before .before .before .before .before .args in
     let unlike = sym (c .before .in-order .ensures) ∙ c .if3 .left in
-    (sym (unordered (x .work .now) (x .n) (x .marks .now) (x .count) (omega arith) (omega arith) unlike), refl)
+    also-said _ _ _ _ (sym (unordered (x .work .now) (x .n) (x .marks .now) (x .count) (omega arith) (omega arith) unlike), refl)
 
 pub apply-spec : {M : Type 1} → statement M
 apply-spec =
@@ -103,10 +105,10 @@ apply-spec =
     (tie.spec
     work-room-requires
     returns
-    mark-room-requires
+    room-requires
     returns-2
     in-order-requires
-    some-least-requires
+    some-fault-requires
     same-length
     returns-3
     add-if5

@@ -19,16 +19,16 @@ abbrev μ-loop : tie.MeasureT-loop
 add-e : tie.Need-add-e Inv-loop μ-loop
 add-e c = omega arith
 
-mark-requires : tie.Need-mark-requires Inv-loop μ-loop
-mark-requires c κs = omega arith
+read-requires : tie.Need-read-requires Inv-loop μ-loop
+read-requires c κs = omega arith
 
 loop-holds : tie.Need-loop-holds Inv-loop μ-loop
 loop-holds c =
     let x = c .before .before .args in
-    (omega arith, omega arith, ap (λ m. x .g + 1 + joined (m .point) (points (x .run .now) (x .g + 1) (x .size - (x .g + 1)))) (c .before .mark .ensures))
+    (omega arith, omega arith, ap (λ m. x .g + 1 + joined (m .point) (points (x .run .now) (x .g + 1) (x .size - (x .g + 1)))) (c .before .read .ensures))
 
-mark-requires-2 : tie.Need-mark-requires-2 Inv-loop μ-loop
-mark-requires-2 c κs = omega arith
+read-requires-2 : tie.Need-read-requires-2 Inv-loop μ-loop
+read-requires-2 c κs = omega arith
 
 same-requires : tie.Need-same-requires Inv-loop μ-loop
 same-requires c κs = search needs
@@ -38,7 +38,7 @@ returns c =
     let f = c .before .before .before in
     let l = f .before .before .loop in
     let x = f .before .before .before .before .before .args in
-    let q = ap (λ m. m .point) (f .mark2 .ensures) in
+    let q = ap (λ m. m .point) (f .read2 .ensures) in
     let t = sym (ap (λ q. sameZ (l .p .x .0) (q .x .0)) q) ∙ sym (c .before .same .ensures) ∙ c .if1 .left in
     (omega (arith, l .inv .2, joined-stop (l .p) (points-step (x .run .now) (x .size) (l .e) (omega arith)) t), (l .inv .0, l .inv .1))
 
@@ -53,7 +53,7 @@ loop-again c =
     let f = c .before .before .before in
     let l = f .before .before .loop in
     let x = f .before .before .before .before .before .args in
-    let q = ap (λ m. m .point) (f .mark2 .ensures) in
+    let q = ap (λ m. m .point) (f .read2 .ensures) in
     let t = sym (ap (λ q. sameZ (l .p .x .0) (q .x .0)) q) ∙ sym (c .before .same .ensures) ∙ c .if1 .taken in
     let j = joined-more (l .p) (points-step (x .run .now) (x .size) (l .e) (omega arith)) t in
     let k = ap (λ q. joined q (points (x .run .now) (l .e + 1) (x .size - (l .e + 1)))) q in
@@ -72,9 +72,9 @@ column-end-spec =
     Inv-loop
     μ-loop
     add-e
-    mark-requires
+    read-requires
     loop-holds
-    mark-requires-2
+    read-requires-2
     same-requires
     returns
     add-e-2

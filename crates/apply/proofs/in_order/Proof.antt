@@ -21,8 +21,8 @@ abbrev μ-loop : tie.MeasureT-loop
 loop-holds : tie.Need-loop-holds Inv-loop μ-loop
 loop-holds c = let x = c .args in (omega arith, ap (λ k. inOrder (x .n) (rowsFrom markRows (x .marks .now) 0 k)) (sub-zero (x .count)))
 
-mark-requires : tie.Need-mark-requires Inv-loop μ-loop
-mark-requires c κs = search needs
+read-requires : tie.Need-read-requires Inv-loop μ-loop
+read-requires c κs = search needs
 
 names-requires : tie.Need-names-requires Inv-loop μ-loop
 names-requires c κs = search needs
@@ -32,7 +32,7 @@ returns c =
     let e = c .before .before in
     let l = e .before .before .loop in
     let x = e .before .before .before .args in
-    let t = sym (ap (names (x .n)) (e .mark .ensures)) ∙ sym (c .before .names .ensures) ∙ c .if1 .left in
+    let t = sym (ap (names (x .n)) (e .read .ensures)) ∙ sym (c .before .names .ensures) ∙ c .if1 .left in
     sym (sym (l .inv .1) ∙ not-named (x .n) (rows-step markRows (x .marks .now) (x .count) (l .i) (omega arith)) t)
 
 leads-requires : tie.Need-leads-requires Inv-loop μ-loop
@@ -44,7 +44,7 @@ returns-2 c =
     let e = f .before .before in
     let l = e .before .before .loop in
     let x = e .before .before .before .args in
-    let t = sym (ap (names (x .n)) (e .mark .ensures)) ∙ sym (f .before .names .ensures) ∙ f .if1 .taken in
+    let t = sym (ap (names (x .n)) (e .read .ensures)) ∙ sym (f .before .names .ensures) ∙ f .if1 .taken in
     let u = sym (c .before .leads .ensures) ∙ c .if2 .left in
     sym (sym (l .inv .1) ∙ not-led (x .n) (rows-step markRows (x .marks .now) (x .count) (l .i) (omega arith)) t u)
 
@@ -60,7 +60,7 @@ loop-again c =
     let e = f .before .before in
     let l = e .before .before .loop in
     let x = e .before .before .before .args in
-    let t = sym (ap (names (x .n)) (e .mark .ensures)) ∙ sym (f .before .names .ensures) ∙ f .if1 .taken in
+    let t = sym (ap (names (x .n)) (e .read .ensures)) ∙ sym (f .before .names .ensures) ∙ f .if1 .taken in
     let u = sym (c .before .leads .ensures) ∙ c .if2 .taken in
     (omega arith, sym (ordered-later (x .n) (rows-step markRows (x .marks .now) (x .count) (l .i) (omega arith)) t u) ∙ l .inv .1)
 
@@ -77,7 +77,7 @@ in-order-spec =
     Inv-loop
     μ-loop
     loop-holds
-    mark-requires
+    read-requires
     names-requires
     returns
     leads-requires

@@ -13,14 +13,14 @@ use Rattle.apply.proofs.leads.Tie as tie
 add-if1 : tie.Need-add-if1
 add-if1 c = search needs
 
-mark-requires : tie.Need-mark-requires
-mark-requires c κs = search needs
+read-requires : tie.Need-read-requires
+read-requires c κs = search needs
 
-add-mark : tie.Need-add-mark
-add-mark c = search needs
+add-read : tie.Need-add-read
+add-read c = search needs
 
-mark-requires-2 : tie.Need-mark-requires-2
-mark-requires-2 c κs = search needs
+read-requires-2 : tie.Need-read-requires-2
+read-requires-2 c κs = search needs
 
 earlier-requires : tie.Need-earlier-requires
 earlier-requires c κs = search needs
@@ -31,7 +31,7 @@ returns c =
     let x = c .before .before .before .before .args in
     let zs = x .marks .now in
     c .earlier .ensures
-    ∙ ap₂ earlier (c .before .before .mark .ensures) (c .before .mark2 .ensures)
+    ∙ ap₂ earlier (c .before .before .read .ensures) (c .before .read2 .ensures)
     ∙ sym (ap (leads (rowAt marks zs (x .i))) (rows-step marks zs (x .count) (x .i + 1) (omega arith)))
 
 returns-2 : tie.Need-returns-2
@@ -44,4 +44,4 @@ returns-2 c =
 pub leads-spec : {M : Type 1} → statement M
 leads-spec =
     tie.close
-    (tie.spec add-if1 mark-requires add-mark mark-requires-2 earlier-requires returns returns-2)
+    (tie.spec add-if1 read-requires add-read read-requires-2 earlier-requires returns returns-2)

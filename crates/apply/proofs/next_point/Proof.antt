@@ -4,24 +4,24 @@ use borrow.Author.Needs.{needs}
 use Rattle.apply.proofs.next_point.Statement.{statement}
 use Rattle.apply.proofs.next_point.Tie as tie
 
-sub-mark : tie.Need-sub-mark
-sub-mark c = search needs
+sub-read : tie.Need-sub-read
+sub-read c = search needs
 
-mark-requires : tie.Need-mark-requires
-mark-requires c κs = search needs
+read-requires : tie.Need-read-requires
+read-requires c κs = search needs
 
 returns : tie.Need-returns
-returns c = ap (λ m. m .point) (c .before .mark .ensures) ∙ rw (c .before .before .if1 .taken)
+returns c = ap (λ m. m .point) (c .before .read .ensures) ∙ rw (c .before .before .if1 .taken)
 
-sub-mark-2 : tie.Need-sub-mark-2
-sub-mark-2 c = search needs
+sub-read-2 : tie.Need-sub-read-2
+sub-read-2 c = search needs
 
-mark-requires-2 : tie.Need-mark-requires-2
-mark-requires-2 c κs = search needs
+read-requires-2 : tie.Need-read-requires-2
+read-requires-2 c κs = search needs
 
 returns-2 : tie.Need-returns-2
-returns-2 c = ap (λ m. m .point) (c .before .mark2 .ensures) ∙ rw (c .before .before .if1 .left)
+returns-2 c = ap (λ m. m .point) (c .before .read2 .ensures) ∙ rw (c .before .before .if1 .left)
 
 pub next-point-spec : {M : Type 1} → statement M
 next-point-spec =
-    tie.close (tie.spec sub-mark mark-requires returns sub-mark-2 mark-requires-2 returns-2)
+    tie.close (tie.spec sub-read read-requires returns sub-read-2 read-requires-2 returns-2)

@@ -9,14 +9,14 @@ use borrow.Author.Needs.{needs}
 use Rattle.apply.proofs.next_y.Statement.{statement}
 use Rattle.apply.proofs.next_y.Tie as tie
 
-mark-requires : tie.Need-mark-requires
-mark-requires c κs = search needs
+read-requires : tie.Need-read-requires
+read-requires c κs = search needs
 
 returns : tie.Need-returns
 returns c =
     let x = c .before .before .before .args in
     let zs = x .run .now in
-    ap (λ m. m .point .y .0) (c .before .mark .ensures)
+    ap (λ m. m .point .y .0) (c .before .read .ensures)
     ∙ sym (ap (λ ps. nextY (x .b) (columns ps)) (points-step zs (x .size) (x .e) (omega arith)) ∙ next-y-first (x .b) (pointAt zs (x .e)) (points zs (x .e + 1) (x .size - (x .e + 1))))
 
 returns-2 : tie.Need-returns-2
@@ -26,4 +26,4 @@ returns-2 c =
     sym (ap (λ ps. nextY (x .b) (columns ps)) (points-done (x .run .now) (x .size) (x .e) (omega arith)))
 
 pub next-y-spec : {M : Type 1} → statement M
-next-y-spec = tie.close (tie.spec mark-requires returns returns-2)
+next-y-spec = tie.close (tie.spec read-requires returns returns-2)

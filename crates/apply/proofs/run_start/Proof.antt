@@ -19,11 +19,11 @@ abbrev μ-loop : tie.MeasureT-loop
 loop-holds : tie.Need-loop-holds Inv-loop μ-loop
 loop-holds c = (omega arith, refl)
 
-sub-mark : tie.Need-sub-mark Inv-loop μ-loop
-sub-mark c = omega arith
+sub-read : tie.Need-sub-read Inv-loop μ-loop
+sub-read c = omega arith
 
-mark-requires : tie.Need-mark-requires Inv-loop μ-loop
-mark-requires c κs = omega arith
+read-requires : tie.Need-read-requires Inv-loop μ-loop
+read-requires c κs = omega arith
 
 is-of-requires : tie.Need-is-of-requires Inv-loop μ-loop
 is-of-requires c κs = search needs
@@ -33,7 +33,7 @@ returns c =
     let e = c .before .before in
     let l = e .before .before .loop in
     let x = e .before .before .before .args in
-    let t = sym (ap (λ m. sameZ (m .segment) (pos (x .i))) (e .mark .ensures)) ∙ sym (c .before .is-of .ensures) ∙ c .if1 .left in
+    let t = sym (ap (λ m. sameZ (m .segment) (pos (x .i))) (e .read .ensures)) ∙ sym (c .before .is-of .ensures) ∙ c .if1 .left in
     (sym (start-here (x .i) (x .marks .now) (l .a) (omega arith) t) ∙ l .inv .1, l .inv .0)
 
 sub-a : tie.Need-sub-a Inv-loop μ-loop
@@ -47,7 +47,7 @@ loop-again c =
     let e = c .before .before in
     let l = e .before .before .loop in
     let x = e .before .before .before .args in
-    let t = sym (ap (λ m. sameZ (m .segment) (pos (x .i))) (e .mark .ensures)) ∙ sym (c .before .is-of .ensures) ∙ c .if1 .taken in
+    let t = sym (ap (λ m. sameZ (m .segment) (pos (x .i))) (e .read .ensures)) ∙ sym (c .before .is-of .ensures) ∙ c .if1 .taken in
     (omega arith, sym (start-more (x .i) (x .marks .now) (l .a) (omega arith) t) ∙ l .inv .1)
 
 returns-2 : tie.Need-returns-2 Inv-loop μ-loop
@@ -63,8 +63,8 @@ run-start-spec =
     Inv-loop
     μ-loop
     loop-holds
-    sub-mark
-    mark-requires
+    sub-read
+    read-requires
     is-of-requires
     returns
     sub-a

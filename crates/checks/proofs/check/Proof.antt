@@ -8,6 +8,7 @@ use Rattle.whole.specs.Kind.{rowsFrom}
 use Rattle.geom.specs.declared.Segment.{Segment}
 use Rattle.geom.specs.Rows.{segments}
 use Rattle.checks.specs.Checks.{isShort, isBad, some, isOff, isPoint, hasLeast, faultOf}
+use Rattle.checks.specs.Exactly.{also-said}
 use Rattle.checks.specs.Accepted.{Roomy, roomy-when}
 use Rattle.checks.proofs.check.Statement.{statement}
 use Rattle.checks.proofs.check.Tie as tie
@@ -39,13 +40,13 @@ not-bad : (c : tie.Else2) → isBad (start2 c .args .settings) ≡ false
 not-bad c = sym (c .before .bad .ensures) ∙ c .if2 .left
 
 none-off : (c : tie.Else3) → some isOff (rows (start3 c)) ≡ false
-none-off c = sym (c .before .some-off .ensures) ∙ c .if3 .left
+none-off c = sym (c .before .some-fault .ensures) ∙ c .if3 .left
 
 none-point : (c : tie.Else4) → some isPoint (rows (start4 c)) ≡ false
-none-point c = sym (c .before .some-point .ensures) ∙ c .if4 .left
+none-point c = sym (c .before .some-fault2 .ensures) ∙ c .if4 .left
 
 none-least : (c : tie.Else5) → some hasLeast (rows (start5 c)) ≡ false
-none-least c = sym (c .before .some-least .ensures) ∙ c .if5 .left
+none-least c = sym (c .before .some-fault3 .ensures) ∙ c .if5 .left
 
 room : (c : tie.Else1) → Roomy (start1 c .args .settings .n) (length (start1 c .args .input .now)) (start1 c .args .work) (start1 c .args .masks)
 room c = roomy-when _ _ _ _ (not-short c)
@@ -57,27 +58,27 @@ short-requires c κs = search needs
 
 returns : tie.Need-returns
 unfolding faultOf
-returns c = rw (sym (c .before .short .ensures) ∙ c .if1 .taken)
+returns c = also-said _ _ _ _ (rw (sym (c .before .short .ensures) ∙ c .if1 .taken))
 
 bad-requires : tie.Need-bad-requires
 bad-requires c κs = search needs
 
 returns-2 : tie.Need-returns-2
 unfolding faultOf
-returns-2 c = let e = c .before .before in rw (not-short e, sym (c .before .bad .ensures) ∙ c .if2 .taken)
+returns-2 c = let e = c .before .before in also-said _ _ _ _ (rw (not-short e, sym (c .before .bad .ensures) ∙ c .if2 .taken))
 
-some-off-requires : tie.Need-some-off-requires
-some-off-requires c κs = room (c .before .before) .rows
+some-fault-requires : tie.Need-some-fault-requires
+some-fault-requires c κs = room (c .before .before) .rows
 
 returns-3 : tie.Need-returns-3
 unfolding faultOf
 returns-3 c =
     let f = c .before .before in
     let e = f .before .before in
-    rw (not-short e, not-bad f, sym (c .before .some-off .ensures) ∙ c .if3 .taken)
+    also-said _ _ _ _ (rw (not-short e, not-bad f, sym (c .before .some-fault .ensures) ∙ c .if3 .taken))
 
-some-point-requires : tie.Need-some-point-requires
-some-point-requires c κs = room (c .before .before .before .before) .rows
+some-fault-requires-2 : tie.Need-some-fault-requires-2
+some-fault-requires-2 c κs = room (c .before .before .before .before) .rows
 
 returns-4 : tie.Need-returns-4
 unfolding faultOf
@@ -85,10 +86,10 @@ returns-4 c =
     let g = c .before .before in
     let f = g .before .before in
     let e = f .before .before in
-    rw (not-short e, not-bad f, none-off g, sym (c .before .some-point .ensures) ∙ c .if4 .taken)
+    also-said _ _ _ _ (rw (not-short e, not-bad f, none-off g, sym (c .before .some-fault2 .ensures) ∙ c .if4 .taken))
 
-some-least-requires : tie.Need-some-least-requires
-some-least-requires c κs = room (c .before .before .before .before .before .before) .rows
+some-fault-requires-3 : tie.Need-some-fault-requires-3
+some-fault-requires-3 c κs = room (c .before .before .before .before .before .before) .rows
 
 returns-5 : tie.Need-returns-5
 unfolding faultOf
@@ -97,7 +98,7 @@ returns-5 c =
     let g = h .before .before in
     let f = g .before .before in
     let e = f .before .before in
-    rw (not-short e, not-bad f, none-off g, none-point h, sym (c .before .some-least .ensures) ∙ c .if5 .taken)
+    also-said _ _ _ _ (rw (not-short e, not-bad f, none-off g, none-point h, sym (c .before .some-fault3 .ensures) ∙ c .if5 .taken))
 
 some-open-requires : tie.Need-some-open-requires
 some-open-requires c κs = let r = room (c .before .before .before .before .before .before .before .before) in (r .limited, r .rows)
@@ -110,7 +111,7 @@ returns-6 c =
     let g = h .before .before in
     let f = g .before .before in
     let e = f .before .before in
-    rw (not-short e, not-bad f, none-off g, none-point h, none-least i, sym (c .before .some-open .ensures) ∙ c .if6 .taken)
+    also-said _ _ _ _ (rw (not-short e, not-bad f, none-off g, none-point h, none-least i, sym (c .before .some-open .ensures) ∙ c .if6 .taken))
 
 returns-7 : tie.Need-returns-7
 unfolding faultOf
@@ -120,7 +121,7 @@ returns-7 c =
     let g = h .before .before in
     let f = g .before .before in
     let e = f .before .before in
-    rw (not-short e, not-bad f, none-off g, none-point h, none-least i, sym (c .before .some-open .ensures) ∙ c .if6 .left)
+    also-said _ _ _ _ (rw (not-short e, not-bad f, none-off g, none-point h, none-least i, sym (c .before .some-open .ensures) ∙ c .if6 .left))
 
 pub check-spec : {M : Type 1} → statement M
 check-spec =
@@ -130,11 +131,11 @@ check-spec =
     returns
     bad-requires
     returns-2
-    some-off-requires
+    some-fault-requires
     returns-3
-    some-point-requires
+    some-fault-requires-2
     returns-4
-    some-least-requires
+    some-fault-requires-3
     returns-5
     some-open-requires
     returns-6

@@ -19,11 +19,11 @@ fits-clip c = search needs
 same-point-requires : tie.Need-same-point-requires
 same-point-requires c κs = search needs
 
-plus-requires : tie.Need-plus-requires
-plus-requires c κs = let s = c .before .before .before in rw (toZ-ofZ (fits-subject s)) (s .pre .0)
+total-requires : tie.Need-total-requires
+total-requires c κs = let s = c .before .before .before in rw (toZ-ofZ (fits-subject s)) (s .pre .0)
 
-plus-requires-2 : tie.Need-plus-requires-2
-plus-requires-2 c κs = let s = c .before .before .before .before .before in rw (toZ-ofZ (fits-clip s)) (s .pre .1)
+total-requires-2 : tie.Need-total-requires-2
+total-requires-2 c κs = let s = c .before .before .before .before .before in rw (toZ-ofZ (fits-clip s)) (s .pre .1)
 
 returns : tie.Need-returns
 unfolding startedAt
@@ -31,10 +31,10 @@ returns c =
     let t = c .before .before in
     let e = t .before .before in
     let s = e .before .before in
-    let p = t .plus .ensures in
-    let q = c .plus2 .ensures in
-    let a : toZ w64 (ofZ w64 (t .plus .result)) ≡ s .args .net .subject +ℤ s .args .v .subject .0 = toZ-ofZ (sfits-of (t .plus .ok)) ∙ p .0 ∙ rw (toZ-ofZ (fits-subject s)) in
-    let b : toZ w64 (ofZ w64 (c .plus2 .result)) ≡ s .args .net .clip +ℤ s .args .v .clip .0 = toZ-ofZ (sfits-of (c .plus2 .ok)) ∙ q .0 ∙ rw (toZ-ofZ (fits-clip s)) in
+    let p = t .total .ensures in
+    let q = c .total2 .ensures in
+    let a : toZ w64 (ofZ w64 (t .total .result)) ≡ s .args .net .subject +ℤ s .args .v .subject .0 = toZ-ofZ (sfits-of (t .total .ok)) ∙ p .0 ∙ rw (toZ-ofZ (fits-subject s)) in
+    let b : toZ w64 (ofZ w64 (c .total2 .result)) ≡ s .args .net .clip +ℤ s .args .v .clip .0 = toZ-ofZ (sfits-of (c .total2 .ok)) ∙ q .0 ∙ rw (toZ-ofZ (fits-clip s)) in
     rw (sym (e .before .same-point .ensures) ∙ e .if1 .taken, a, b) (refl, (rw (p .0, toZ-ofZ (fits-subject s)) at (p .1), rw (q .0, toZ-ofZ (fits-clip s)) at (q .1)))
 
 returns-2 : tie.Need-returns-2
@@ -43,4 +43,4 @@ returns-2 c = rw (sym (c .before .same-point .ensures) ∙ c .if1 .left) (refl, 
 
 pub started-spec : {M : Type 1} → statement M
 started-spec =
-    tie.close (tie.spec same-point-requires plus-requires plus-requires-2 returns returns-2)
+    tie.close (tie.spec same-point-requires total-requires total-requires-2 returns returns-2)

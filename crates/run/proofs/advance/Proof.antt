@@ -84,7 +84,7 @@ cut-requires : tie.Need-cut-requires
 cut-requires c κs =
     let k = c .before .before .before .before .before in
     let s = start k in
-    (s .pre .0, is-marked (xs s) (s .args .m) (s .pre .0) (zs s) (counted k) (k .count .given .1) (after k .look .ensures .1))
+    (s .pre .0, is-marked (xs s) (s .args .m) (s .pre .0) (zs s) (counted k) (k .count .given .1) (after k .look .ensures .1 .1))
 
 same-length-7 : tie.Need-same-length-7
 same-length-7 c = search needs

@@ -39,7 +39,7 @@ module _ (c : tie.After-apply) where
   number = let e = sym (known .k .given .1) ∙ is-distinct (start .pre .1) (begun .tidy .ensures .0) in cc
 
   tidied : Tidy (L start) (begun .tidy .last .0)
-  tidied = is-tidy (start .pre .1) (known .k .given .1) (begun .tidy .ensures .1)
+  tidied = is-tidy (start .pre .1) (known .k .given .1) (begun .tidy .ensures .1 .1)
 
   answered : c .apply .result ≡ applyAnswer (xs start) (start .args .m) (begun .tidy .last .0) (length (tidy (look radius (L start))))
   answered = c .apply .ensures .0 ∙ ap (applyAnswer (xs start) (start .args .m) (begun .tidy .last .0)) number
@@ -47,7 +47,7 @@ module _ (c : tie.After-apply) where
   divided : {p : ℕ} → c .apply .result ≡ Pieces p → Split (L start) (c .apply .last .0) (length (xs start)) p
   divided e =
       is-split (xs start) (start .args .m) (start .pre .0) tidied answered e
-      (c .apply .ensures .1 ∙ ap (applyList (c .apply .result) (xs start) (start .args .m) (begun .tidy .last .0)) number)
+      (c .apply .ensures .1 .1 ∙ ap (applyList (c .apply .result) (xs start) (start .args .m) (begun .tidy .last .0)) number)
 
 module _ (c : tie.After-p) where
   abbrev applied : tie.After-apply

@@ -14,7 +14,7 @@ enum-told c = search needs
 run-requires : tie.Need-run-requires
 run-requires c κs =
     let e = c .before .before .before .before in
-    sym (e .before .before .check .ensures) ∙ e .enum-told .given .1
+    sym (e .before .before .check .ensures .0) ∙ e .enum-told .given .1
 
 enum-told-2 : tie.Need-enum-told-2
 enum-told-2 c = search needs
@@ -51,31 +51,31 @@ unfolding outcome unless
 returns c =
     let r = c .before .before .before .before .before in
     let e = r .before .before .before .before .before in
-    rw (sym (e .before .before .check .ensures) ∙ e .enum-told .given .1) (r .run .ensures)
+    rw (sym (e .before .before .check .ensures .0) ∙ e .enum-told .given .1) (r .run .ensures)
 
 returns-2 : tie.Need-returns-2
 unfolding outcome unless
-returns-2 c = rw (sym (c .before .before .check .ensures) ∙ c .enum-told2 .given .1)
+returns-2 c = rw (sym (c .before .before .check .ensures .0) ∙ c .enum-told2 .given .1)
 
 returns-3 : tie.Need-returns-3
 unfolding outcome unless
-returns-3 c = rw (sym (c .before .before .check .ensures) ∙ c .enum-told3 .given .1)
+returns-3 c = rw (sym (c .before .before .check .ensures .0) ∙ c .enum-told3 .given .1)
 
 returns-4 : tie.Need-returns-4
 unfolding outcome unless
-returns-4 c = rw (sym (c .before .before .check .ensures) ∙ c .enum-told4 .given .1)
+returns-4 c = rw (sym (c .before .before .check .ensures .0) ∙ c .enum-told4 .given .1)
 
 returns-5 : tie.Need-returns-5
 unfolding outcome unless
-returns-5 c = rw (sym (c .before .before .check .ensures) ∙ c .enum-told5 .given .1)
+returns-5 c = rw (sym (c .before .before .check .ensures .0) ∙ c .enum-told5 .given .1)
 
 returns-6 : tie.Need-returns-6
 unfolding outcome unless
-returns-6 c = rw (sym (c .before .before .check .ensures) ∙ c .enum-told6 .given .1)
+returns-6 c = rw (sym (c .before .before .check .ensures .0) ∙ c .enum-told6 .given .1)
 
 returns-7 : tie.Need-returns-7
 unfolding outcome unless
-returns-7 c = rw (sym (c .before .before .check .ensures) ∙ c .enum-told7 .given .1)
+returns-7 c = rw (sym (c .before .before .check .ensures .0) ∙ c .enum-told7 .given .1)
 
 pub overlay-spec : {M : Type 1} → statement M
 overlay-spec =

@@ -6,7 +6,7 @@ use lib.IntN.{ℤ}
 use borrow.Author.Needs.{needs}
 use Rattle.whole.specs.Kind.{rowsFrom, front, flat}
 use Rattle.segm.specs.declared.Merged.the-variants.{Same}
-use Rattle.segm.specs.MergeLaws.{over-limit, no-room, enough}
+use Rattle.segm.specs.MergeLaws.{over-limit, no-room, enough, also-said}
 use Rattle.segm.specs.Merge.{groups, merged, paired, anyFar, mergeAnswer, mergeList}
 use Rattle.segm.proofs.merge.Statement.{statement}
 use Rattle.segm.proofs.merge.Tie as tie
@@ -17,19 +17,19 @@ nothing xs = rw (enough xs 0 (omega arith) (omega arith)) (refl, refl)
 
 returns : tie.Need-returns
 unfolding mergeAnswer mergeList
-returns c = let s = c .before in rw (over-limit (s .args .work .now) (s .args .n) (c .if1 .taken)) (refl, refl)
+returns c = let s = c .before in also-said _ _ (rw (over-limit (s .args .work .now) (s .args .n) (c .if1 .taken)) (refl, refl))
 
 mul-if2 : tie.Need-mul-if2
 mul-if2 c = search needs
 
 returns-2 : tie.Need-returns-2
 unfolding mergeAnswer mergeList
-returns-2 c = let s = c .before .before in rw (no-room (s .args .work .now) (s .args .n) (c .if2 .taken)) (refl, refl)
+returns-2 c = let s = c .before .before in also-said _ _ (rw (no-room (s .args .work .now) (s .args .n) (c .if2 .taken)) (refl, refl))
 
 returns-3 : tie.Need-returns-3
 returns-3 c =
     let h = nothing (c .before .before .before .args .work .now) in
-    rw (c .if3 .taken) (sym (h .0), sym (h .1))
+    also-said _ _ (rw (c .if3 .taken) (sym (h .0), sym (h .1)))
 
 merge-rows-requires : tie.Need-merge-rows-requires
 merge-rows-requires c κs = search needs
@@ -42,7 +42,7 @@ unfolding mergeAnswer mergeList
 returns-4 c =
     let e = c .before .before .before .before in
     let s = e .before .before in
-    rw (enough (s .args .work .now) (s .args .n) (e .before .if1 .left) (e .if2 .left)) (c .before .merge-rows .ensures)
+    also-said _ _ (rw (enough (s .args .work .now) (s .args .n) (e .before .if1 .left) (e .if2 .left)) (c .before .merge-rows .ensures))
 
 pub merge-spec : {M : Type 1} → statement M
 merge-spec =

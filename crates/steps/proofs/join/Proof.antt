@@ -24,7 +24,7 @@ module _ (c : tie.After-merge) where
       let xs = start .args .work .now in
       let n = start .args .n in
       let s = c .before .before .before .sort in
-      joined xs n (start .pre .0) (start .pre .1) (sorted-list xs n (start .pre .0) (start .pre .1) (s .ensures .0) (s .ensures .1)) (c .merge .ensures .0) (c .merge .ensures .1)
+      joined xs n (start .pre .0) (start .pre .1) (sorted-list xs n (start .pre .0) (start .pre .1) (s .ensures .0) (s .ensures .1)) (c .merge .ensures .0) (c .merge .ensures .1 .1)
 
 enum-known-m : tie.Need-enum-known-m
 enum-known-m c = search needs

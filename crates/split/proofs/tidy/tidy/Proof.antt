@@ -9,6 +9,7 @@ use Rattle.whole.specs.Sorting.{sort}
 use Rattle.split.specs.declared.answer.Tidied.the-variants.{Distinct}
 use Rattle.split.specs.Marks.{marks}
 use Rattle.split.specs.Tidied.{tidyAnswer, tidyList}
+use Rattle.split.specs.Said.{also-tidied}
 use Rattle.split.proofs.Tidying.{sorted, tidied}
 use Rattle.split.proofs.tidy.tidy.Statement.{statement}
 use Rattle.split.proofs.tidy.tidy.Tie as tie
@@ -18,7 +19,7 @@ room-requires c κs = search needs
 
 returns : tie.Need-returns
 unfolding tidyAnswer tidyList
-returns c = (rw (← c .before .room .ensures, lt-ltb _ _ (c .if1 .taken)), refl)
+returns c = also-tidied _ _ (rw (← c .before .room .ensures, lt-ltb _ _ (c .if1 .taken)), refl)
 
 sort-requires : tie.Need-sort-requires
 sort-requires c κs = search needs
@@ -39,7 +40,7 @@ returns-2 c =
     let h : x .count ≤ e .before .room .result = e .if1 .left in
     let f : 3 * x .count ≤ length (x .marks .now) = omega (arith, e .before .room .ensures) in
     let t = tidied (x .marks .now) (x .count) (rw (sorted (x .marks .now) (x .count) f (o .sort .ensures .0) (o .sort .ensures .1)) at (d .drop-repeats .ensures)) in
-    (rw (← e .before .room .ensures, le-ltb _ _ h) (ap Distinct (t .0)), t .1)
+    also-tidied _ _ (rw (← e .before .room .ensures, le-ltb _ _ h) (ap Distinct (t .0)), t .1)
 
 pub tidy-spec : {M : Type 1} → statement M
 tidy-spec =
