@@ -26,7 +26,7 @@ mul-want : tie.Need-mul-want
 mul-want c = let g = guess c in omega arith
 
 returns : tie.Need-returns
-returns c = cc (kept (guess (c .before)) (omega arith))
+returns c = kept (guess (c .before)) (omega arith)
 
 sub-lack : tie.Need-sub-lack
 sub-lack c = search needs
@@ -35,7 +35,7 @@ sub-t14 : tie.Need-sub-t14
 sub-t14 c = omega (arith, at-least-one (guess (c .before .before)) (omega arith))
 
 returns-2 : tie.Need-returns-2
-returns-2 c = cc (one-less (guess (c .before .before)) (omega arith) (omega arith))
+returns-2 c = one-less (guess (c .before .before)) (omega arith) (omega arith)
 
 sub-t10 : tie.Need-sub-t10
 sub-t10 c = omega (arith, at-least-two (guess (c .before .before)) (omega arith))

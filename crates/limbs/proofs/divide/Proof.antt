@@ -8,7 +8,7 @@ use Rattle.limbs.proofs.divide.Statement.{statement}
 use Rattle.limbs.proofs.divide.Tie as tie
 
 first : (c : tie.After-digit) → let x = c .before .before .args in Divided (x .n .high * 2 ^ 32 + upper (x .n .low)) (x .d) (c .digit .result .whole) (c .digit .result .rest)
-first c = let p = c .before .before .pre in quotient-divided _ _ _ (omega arith) (cc)
+first c = let p = c .before .before .pre in quotient-divided _ _ _ (omega arith) (c .digit .ensures)
 
 second : (c : tie.After-digit2) → let s = c .before .before in let x = s .before .before .args in Divided (s .digit .result .rest * 2 ^ 32 + lower (x .n .low)) (x .d) (c .digit2 .result .whole) (c .digit2 .result .rest)
 second c = let p = c .before .before .before .before .pre in quotient-divided _ _ _ (omega arith) (cc)
@@ -37,7 +37,7 @@ returns : tie.Need-returns
 returns c =
     let l = c .before .before in
     let n = l .before .before .before .before .args .n in
-    cc (quotient-is (two-digits (n .high) (n .low) (first (l .before .before)) (second l)))
+    quotient-is (two-digits (n .high) (n .low) (first (l .before .before)) (second l))
 
 pub divide-spec : {M : Type 1} → statement M
 divide-spec = tie.close (tie.spec digit-requires digit-requires-2 mul-t5 add-t6 returns)

@@ -1,6 +1,6 @@
 -- `limbs::nearest` meets its contract. A number of one word is divided by the machine; one of two words is divided after it and the divisor are raised by one factor,
 -- which the nearest does not see.
-use mathlib.Core.Path.{_≡_, _∙_}
+use mathlib.Core.Path.{_≡_, sym, _∙_}
 use Prim.Native.Nat.{_+_, _*_, _/_, _%_, _<_}
 use native.Mathlib.Nat.{div-add-mod', mod-lt}
 use native.Mathlib.Omega.{arith}
@@ -39,7 +39,7 @@ returns-3 : tie.Need-returns-3
 returns-3 c =
     let e = c .before .before .before .before in
     let x = e .before .args in
-    cc (too-high (x .n .high) (x .n .low) (x .d) (some e) (omega arith))
+    sym (too-high (x .n .high) (x .n .low) (x .d) (some e) (omega arith))
 
 factor-requires : tie.Need-factor-requires
 factor-requires c κs = search needs
