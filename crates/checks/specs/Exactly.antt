@@ -4,12 +4,9 @@ use mathlib.Core.Bool.{Bool, true, false, not, cond, _&&_}
 use mathlib.Core.List.{List, [], _∷_}
 use mathlib.Core.Logic.{_↔_, _⊎_, inl, inr, ⊎-elim}
 use Prim.Native.Nat.{ℕ, _*_, _^_, _<_}
-use native.Mathlib.Omega.{arith}
-use lib.Dec.{ltb, eqb}
 use lib.IntN.{ℤ, pos, negℤ}
 use lib.ListN.{length}
 use lib.Signed.{_≤ℤ_, _<ℤ_}
-use borrow.Author.Tests.{ltb-true, ltb-false, eqb-true, eqb-false}
 use Rattle.whole.specs.Kind.{rowsFrom}
 use Rattle.whole.specs.Order.{zz, nlt-in}
 use Rattle.whole.specs.Sum.{In, here, there, all-in, none}
@@ -19,7 +16,7 @@ use Rattle.geom.specs.Limits.{segmentLimit, workRoom}
 use Rattle.geom.specs.Plane.{Side, subject, clip, count, onGrid, gridPoint, gridSegment}
 use Rattle.geom.specs.Rows.{segments}
 use Rattle.geom.specs.Tests.{Decides, yes, no, holds, fails, said, lt?, same?, samePoint?}
-use Rattle.plane.specs.Decide.{or}
+use Rattle.whole.specs.Decide.{or, below?, equal?}
 use Rattle.segm.specs.Balance.{balanced, closed}
 use Rattle.segm.specs.BalanceLaws.{Uneven, uneven?}
 use Rattle.checks.specs.declared.Fault.{Fault}
@@ -103,20 +100,6 @@ module _ {A B C D E F : Type 0} where
   only-first s t u v w x Sound (g, h, i, j, k, l) = rw (fails s g, fails t h, fails u i, fails v j, fails w k, fails x l)
 
 -- ---- each test decides its sentence
-
-pub below? : (m n : ℕ) → Decides (m < n) (ltb m n)
-below? m n = go (ltb m n) refl
-  where
-    go : (t : Bool) → ltb m n ≡ t → Decides (m < n) t
-    go true e = yes (ltb-true m n e)
-    go false e = no (λ h. omega (arith, ltb-false m n e))
-
-equal? : (m n : ℕ) → Decides (m ≡ n) (eqb m n)
-equal? m n = go (eqb m n) refl
-  where
-    go : (t : Bool) → eqb m n ≡ t → Decides (m ≡ n) t
-    go true e = yes (eqb-true m n e)
-    go false e = no (eqb-false m n e)
 
 pub short? : (n input work masks : ℕ) → Decides (TooShort n input work masks) (isShort n input work masks)
 unfolding isShort

@@ -29,7 +29,7 @@ use Rattle.split.specs.Chain.{pointsOf, chain, piecesFrom, splitFrom}
 use Rattle.split.proofs.Tidying.{sameMark?}
 use Rattle.overlay.specs.Looks.{radius}
 use Rattle.demands.specs.Chain.{cut}
-use Rattle.demands.specs.Distinct.{distinct-apart, distinct-all}
+use Rattle.whole.specs.DistinctLaws.{distinct-apart, distinct-all}
 use Rattle.demands.specs.Clear.{Clear, step, clear-of}
 use Rattle.demands.specs.Once.{Once, from-a-to-b, next-differs, chain-all}
 

@@ -8,11 +8,10 @@ use lib.ListN.{length, getD, take}
 use lib.Seq.{getD-take}
 use Rattle.whole.specs.Kind.{rowAt, rowsFrom}
 use Rattle.whole.specs.KindLaws.{rows-at, length-rows}
-use Rattle.whole.specs.Sum.{Pairs, pair}
+use Rattle.whole.specs.Sum.{Pairs, pair, In, here, there, all-in}
 use Rattle.geom.specs.declared.Segment.{Segment}
 use Rattle.geom.specs.Rows.{segments}
 use Rattle.scan.specs.Masks.{byteOf, bytes}
-use Rattle.laws.specs.Settled.{In, here, there, all-in}
 
 module _ {A : Type 0} (d : A) where
   in-at : (L : List A) (k : ℕ) → k < length L → In (getD L k d) L

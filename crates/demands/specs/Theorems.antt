@@ -11,7 +11,7 @@ use lib.ListN.{getD}
 use lib.Signed.{_<ℤ_}
 use Rattle.whole.specs.Order.{zz}
 use Rattle.whole.specs.Kind.{rowAt}
-use Rattle.whole.specs.Sum.{All, all-both}
+use Rattle.whole.specs.Sum.{All, all-both, In, all-in}
 use Rattle.geom.specs.declared.Point.{Point}
 use Rattle.geom.specs.declared.Segment.{Segment}
 use Rattle.geom.specs.Plane.{Side, Before, by-x, by-y, count}
@@ -27,7 +27,7 @@ use Rattle.rules.specs.KeepLaws.{Algebra, of-signs}
 use Rattle.scan.specs.Masks.{bottom, top, maskOf}
 use Rattle.laws.specs.Sides.{bottom-end, left-side}
 use Rattle.laws.specs.Ray.{ray}
-use Rattle.laws.specs.Settled.{Settled, In, all-in}
+use Rattle.laws.specs.Settled.{Settled}
 use Rattle.laws.specs.Along.{both-ends}
 use Rattle.laws.specs.Upright.{left-is-top}
 use Rattle.laws.specs.Beside.{Beside, ray-over, ray-under}

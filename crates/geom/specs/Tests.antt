@@ -1,88 +1,17 @@
--- Each test of Plane decides its sentence: true where the sentence holds, false where it does not.
-use mathlib.Core.Path.{_≡_, refl, sym, ap}
-use mathlib.Core.Bool.{Bool, true, false, cond, _&&_}
-use mathlib.Core.Logic.{_↔_, _⊎_, inl, inr, ⊎-elim}
+-- Each test of Plane decides its sentence: true where the sentence holds, false where it does not. The laws of deciding are whole's, passed on with the tests.
+use mathlib.Core.Path.{_≡_, ap}
+use mathlib.Core.Bool.{Bool, true, false, cond}
+use mathlib.Core.Logic.{_↔_, _⊎_, inl, inr}
 use Prim.Native.Nat.{ℕ, _^_}
-use lib.Dec.{T}
 use lib.IntN.{ℤ, pos, negℤ}
-use lib.Signed.{ltZ, leZ, _≤ℤ_, _<ℤ_}
+use lib.Signed.{_≤ℤ_, _<ℤ_}
 use Rattle.whole.specs.Order.{zz, mag-in, mag-out, nlt-in}
 use Rattle.whole.specs.Sign.{Tri, less, same, more, tri}
-use Rattle.whole.specs.Test.{of-true, lt-of, lt-not, le-of, le-not-of}
+pub use Rattle.whole.specs.Decide.{Decides, yes, no, holds, fails, when-true, when-false, test-is, said, both, and, either, unless, lt?, le?, same?}
 use Rattle.geom.specs.declared.Point.{Point}
 use Rattle.geom.specs.declared.Segment.{Segment}
-use Rattle.geom.specs.Plane.{OnGrid, GridPoint, GridSegment, onGrid, gridPoint, gridSegment, Before, by-x, by-y, before, between, sameZ, samePoint, upright, turn, signOf, sideOf}
+use Rattle.geom.specs.Plane.{OnGrid, GridPoint, GridSegment, onGrid, gridPoint, gridSegment, Before, by-x, by-y, before, between, samePoint, upright, turn, signOf, sideOf}
 use Rattle.geom.specs.Order.{point-eq, before-differ}
-
--- the test t decides the sentence P
-pub data Decides (P : Type 0) : Bool → Type 0 where
-  yes : P → Decides P true
-  no : (P → ⊥) → Decides P false
-
-pub holds : {P : Type 0} {t : Bool} → Decides P t → P → t ≡ true
-holds (yes h) p = refl
-holds (no f) p = absurd (f p)
-
-pub fails : {P : Type 0} {t : Bool} → Decides P t → (P → ⊥) → t ≡ false
-fails (yes h) f = absurd (f h)
-fails (no f) g = refl
-
-pub when-true : {P : Type 0} {t : Bool} → Decides P t → t ≡ true → P
-when-true (yes h) e = h
-when-true (no f) e = absurd (of-true e)
-
-pub when-false : {P : Type 0} {t : Bool} → Decides P t → t ≡ false → P → ⊥
-when-false (yes h) e p = of-true (sym e)
-when-false (no f) e p = f p
-
-pub test-is : {P : Type 0} {t : Bool} → Decides P t → (T t ↔ P)
-test-is (yes h) = (λ u. h, λ p. tt)
-test-is (no f) = (λ u. absurd u, f)
-
--- ---- tests made of tests
-
-pub said : {P Q : Type 0} {t : Bool} → (P → Q) → (Q → P) → Decides P t → Decides Q t
-said f g (yes h) = yes (f h)
-said f g (no n) = no (λ q. n (g q))
-
-pub both : {P Q : Type 0} {a b : Bool} → Decides P a → Decides Q b → Decides (P × Q) (cond a b false)
-both (yes p) (yes q) = yes (p, q)
-both (yes p) (no g) = no (λ h. g (h .1))
-both (no f) d = no (λ h. f (h .0))
-
-pub and : {P Q : Type 0} {a b : Bool} → Decides P a → Decides Q b → Decides (P × Q) (a && b)
-and (yes p) (yes q) = yes (p, q)
-and (yes p) (no g) = no (λ h. g (h .1))
-and (no f) d = no (λ h. f (h .0))
-
-pub either : {P Q : Type 0} {a b : Bool} → Decides P a → Decides Q b → Decides (P ⊎ Q) (cond a true b)
-either (yes p) d = yes (inl p)
-either (no f) (yes q) = yes (inr q)
-either (no f) (no g) = no (⊎-elim f g)
-
-pub unless : {P Q : Type 0} {a b : Bool} → Decides P a → Decides Q b → Decides ((P → ⊥) × Q) (cond a false b)
-unless (yes p) d = no (λ h. h .0 p)
-unless (no f) (yes q) = yes (f, q)
-unless (no f) (no g) = no (λ h. g (h .1))
-
--- ---- whole numbers
-
-pub lt? : (a b : ℤ) → Decides (a <ℤ b) (ltZ a b)
-lt? a b = go (ltZ a b) refl
-  where
-    go : (t : Bool) → ltZ a b ≡ t → Decides (a <ℤ b) t
-    go true e = yes (lt-of e)
-    go false e = no (λ h. omega (zz, lt-not {a = a} {b = b} e))
-
-pub le? : (a b : ℤ) → Decides (a ≤ℤ b) (leZ a b)
-le? a b = go (leZ a b) refl
-  where
-    go : (t : Bool) → leZ a b ≡ t → Decides (a ≤ℤ b) t
-    go true e = yes (le-of e)
-    go false e = no (λ h. omega (zz, le-not-of {a = a} {b = b} e))
-
-pub same? : (a b : ℤ) → Decides (a ≡ b) (sameZ a b)
-same? a b = said (λ h. omega (zz, h .0, h .1)) (λ e. (omega zz, omega zz)) (and (le? a b) (le? b a))
 
 -- ---- the grid
 

@@ -8,7 +8,7 @@ use mathlib.Core.Bool.{Bool, true, false, not, _&&_}
 use lib.IntN.{ℤ, pos, _+ℤ_, +ℤ-comm}
 use lib.Signed.{leZ, ltZ, _≤ℤ_, _<ℤ_}
 use Rattle.whole.specs.Order.{zz, add-is}
-use Rattle.whole.specs.Sum.{All, all-map, all-both, ind, Over, over-two}
+use Rattle.whole.specs.Sum.{All, all-map, all-both, ind, Over, over-two, In}
 use Rattle.whole.specs.Test.{of-true, and-l, and-r, and-same, lt-true, lt-of, le-of, lt-not, le-not}
 use Rattle.geom.specs.declared.Point.{Point}
 use Rattle.geom.specs.declared.Segment.{Segment}
@@ -19,7 +19,7 @@ use Rattle.laws.specs.Sides.{reaches, below-end, bottom-end}
 use Rattle.laws.specs.Points.{runs}
 use Rattle.laws.specs.Boundary.{region}
 use Rattle.laws.specs.Place.{Place, left-A, right-Z, left-S, right-E}
-use Rattle.laws.specs.Settled.{In, Settled, place-in}
+use Rattle.laws.specs.Settled.{Settled, place-in}
 use Rattle.laws.specs.Below.{lowerAt, bottom-is}
 
 -- the open strip of e, under e

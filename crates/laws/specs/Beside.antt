@@ -9,7 +9,7 @@ use lib.IntN.{ℤ, pos, _+ℤ_, _-ℤ_, _*ℤ_}
 use lib.Signed.{ltZ, _≤ℤ_, _<ℤ_}
 use Rattle.whole.specs.Order.{zz, add-is, sub-is, neg-is}
 use Rattle.whole.specs.Sign.{lt-or-le, le-by-contra, mul-pos, mul-nonneg, mul-nonneg-nonpos, mul-pos-neg, pos-right}
-use Rattle.whole.specs.Sum.{All, all-of, all-map, all-both, ind, over-same, over-one}
+use Rattle.whole.specs.Sum.{All, all-of, all-map, all-both, ind, over-same, over-one, In}
 use Rattle.plane.specs.Scaled.{scale-lt, unscale-lt}
 use Rattle.whole.specs.Test.{of-true, and-l, and-r, and-same, lt-true, lt-false, le-true, lt-gt, lt-eq-back, lt-of, lt-not}
 use Rattle.geom.specs.declared.Segment.{Segment}
@@ -18,7 +18,7 @@ use Rattle.plane.specs.Apart.{Apart}
 use Rattle.segm.specs.Balance.{Balanced}
 use Rattle.scan.specs.Masks.{bottom, top}
 use Rattle.laws.specs.Ray.{alive-at, crossed, ray}
-use Rattle.laws.specs.Settled.{In, Settled, Meets, meets-in, only}
+use Rattle.laws.specs.Settled.{Settled, Meets, meets-in, only}
 use Rattle.laws.specs.Mid.{Inside, anywhere}
 use Rattle.laws.specs.Foot.{le-scaled, lt-scaled, u, v, foot, foot-column, foot-height, foot-line, seen, lift, foot-x, foot-d, begun, still, some-t, on-t, run-t}
 

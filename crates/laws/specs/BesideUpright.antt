@@ -7,7 +7,7 @@ use mathlib.Core.Logic.{inl, inr}
 use lib.IntN.{ℤ, pos, _*ℤ_}
 use lib.Signed.{leZ, ltZ, _≤ℤ_, _<ℤ_}
 use Rattle.whole.specs.Order.{zz, add-is}
-use Rattle.whole.specs.Sum.{All, all-of, all-map, all-both, Over, over-same, over-none}
+use Rattle.whole.specs.Sum.{All, all-of, all-map, all-both, Over, over-same, over-none, In}
 use Rattle.plane.specs.Scaled.{at, spot, unscale-lt, before-at}
 use Rattle.whole.specs.Test.{is-true, is-false, and-l, and-r, and-same, lt-true, tests, lt-of, le-of, eqZ-is}
 use Rattle.geom.specs.declared.Segment.{Segment}
@@ -20,7 +20,7 @@ use Rattle.laws.specs.Sides.{reaches, below-end, below-left, left-side}
 use Rattle.laws.specs.Ray.{alive-at, crossed, ray}
 use Rattle.laws.specs.Points.{runs}
 use Rattle.laws.specs.Place.{left-A, up-left-a}
-use Rattle.laws.specs.Settled.{In, Settled, Meets, meets-in, place-of}
+use Rattle.laws.specs.Settled.{Settled, Meets, meets-in, place-of}
 use Rattle.laws.specs.Below.{lowerAt, lean-up, bottom-is}
 use Rattle.laws.specs.Along.{beneath, Fair, along}
 use Rattle.laws.specs.Column.{under-right, under-left, upto, columns}

@@ -5,7 +5,7 @@ use mathlib.Core.List.{List, [], _∷_}
 use lib.IntN.{ℤ, pos, negsuc, _+ℤ_, _-ℤ_, _*ℤ_}
 use Rattle.whole.specs.Order.{zz, add-is, sub-is}
 use Rattle.whole.specs.Ring.{ring, reads}
-use Rattle.whole.specs.Sum.{none, also, Sum, Over}
+use Rattle.whole.specs.Sum.{none, also, Sum, Over, here, there}
 use Rattle.geom.specs.declared.Segment.{Segment}
 use Rattle.geom.specs.Plane.{point, segment, Side, subject, clip, count, before, samePoint, turn}
 use Rattle.geom.specs.Off.{Off, cross, Within, rising, falling}
@@ -15,7 +15,7 @@ use Rattle.segm.specs.BalanceLaws.{balanced-test}
 use Rattle.scan.specs.Masks.{bottom, top}
 use Rattle.laws.specs.Edges.{running, standing, edges}
 use Rattle.laws.specs.Ray.{ray}
-use Rattle.laws.specs.Settled.{here, there, Settled, apartFrom, settled, settled-of}
+use Rattle.laws.specs.Settled.{Settled, apartFrom, settled, settled-of}
 use Rattle.laws.specs.Law.{signOfSides, sides-law}
 use Rattle.laws.specs.Beside.{Between, over, under, Beside, ray-over}
 use Rattle.laws.specs.Level.{Across, right, left, Level}

@@ -9,7 +9,7 @@ use mathlib.Core.Bool.{true, _&&_}
 use lib.IntN.{ℤ, _+ℤ_, _-ℤ_}
 use lib.Signed.{_<ℤ_}
 use Rattle.whole.specs.Order.{zz, add-is}
-use Rattle.whole.specs.Sum.{All, none, also, all-map, all-both, sum-on, Over, over-same, over-none, over-one, over-two, keep, sum-keep, over-keep, all-keep, pairs-keep, pairs-map}
+use Rattle.whole.specs.Sum.{All, none, also, all-map, all-both, sum-on, Over, over-same, over-none, over-one, over-two, keep, sum-keep, over-keep, all-keep, pairs-keep, pairs-map, In, here, there}
 use Rattle.geom.specs.declared.Point.{Point}
 use Rattle.geom.specs.declared.Segment.{Segment}
 use Rattle.geom.specs.Plane.{Before, by-x, by-y, Side, count, subject, clip}
@@ -18,7 +18,7 @@ use Rattle.scan.specs.Masks.{bottom, top}
 use Rattle.laws.specs.Sides.{below-end, bottom-end}
 use Rattle.laws.specs.Points.{point-of}
 use Rattle.laws.specs.Telescope.{rise, Lower, telescope}
-use Rattle.laws.specs.Settled.{In, here, there, Settled, meets-in}
+use Rattle.laws.specs.Settled.{Settled, meets-in}
 use Rattle.laws.specs.Below.{lowerAt, bottom-is}
 use Rattle.laws.specs.Along.{both-ends}
 use Rattle.laws.specs.Column.{under-right, under-left, upto, base-right, columns}

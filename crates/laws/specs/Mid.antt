@@ -8,7 +8,7 @@ use lib.Signed.{leZ, ltZ, _≤ℤ_, _<ℤ_}
 use Rattle.whole.specs.Order.{zz, add-is, sub-is, neg-is}
 use Rattle.whole.specs.Ring.{ring, reads}
 use Rattle.whole.specs.Sign.{cancel-lt, mul-mono}
-use Rattle.whole.specs.Sum.{all-map, all-both, ind, Over, over-two}
+use Rattle.whole.specs.Sum.{all-map, all-both, ind, Over, over-two, In}
 use Rattle.whole.specs.Test.{and-l, and-r, and-same, lt-true, lt-false, le-true, lt-of, le-of, lt-not, le-not}
 use Rattle.geom.specs.declared.Point.{Point}
 use Rattle.geom.specs.declared.Segment.{Segment}
@@ -21,7 +21,7 @@ use Rattle.laws.specs.Ray.{alive-at, crossed, ray}
 use Rattle.laws.specs.Points.{runs}
 use Rattle.laws.specs.Boundary.{region}
 use Rattle.laws.specs.Place.{Place, level, over-e, under-e, up-l, up-r, dn-l, dn-r, pull-dn, pull-dn′, pull-up, pull-up′, gap, gap≤, weak, weak⁻, left-S, right-E}
-use Rattle.laws.specs.Settled.{In, Settled, place-in}
+use Rattle.laws.specs.Settled.{Settled, place-in}
 use Rattle.laws.specs.Below.{lowerAt, bottom-is}
 use Rattle.laws.specs.Along.{tally, le-run, A-is}
 use Rattle.laws.specs.Node.{no-factor}

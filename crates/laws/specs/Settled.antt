@@ -7,7 +7,7 @@ use Rattle.plane.specs.Decide.{and-is}
 use mathlib.Core.Logic.{_⊎_, inl, inr}
 use lib.IntN.{ℤ, pos, _+ℤ_, _*ℤ_}
 use Rattle.whole.specs.Ring.{ring, reads}
-use Rattle.whole.specs.Sum.{All, none, also, all-map, all-both, Pairs, no-pair, pair, Sum, ind, Over, over-none}
+use Rattle.whole.specs.Sum.{All, none, also, all-map, all-both, all-in, Pairs, no-pair, pair, In, here, there, Sum, ind, Over, over-none}
 use Rattle.geom.specs.declared.Segment.{Segment}
 use Rattle.geom.specs.Plane.{Before, before}
 use Rattle.plane.specs.Order.{before-is}
@@ -17,14 +17,6 @@ use Rattle.laws.specs.Place.{Placed, placed, placed-self}
 pub record Settled (L : List Segment) : Type 0 where
   pub forward : All (λ t. Before (t .a) (t .b)) L
   pub apart : Pairs Apart L
-
-pub data In {A : Type 0} (e : A) : List A → Type 0 where
-  here : {L : List A} → In e (e ∷ L)
-  there : {t : A} {L : List A} → In e L → In e (t ∷ L)
-
-pub all-in : {A : Type 0} {P : A → Type 0} {e : A} {L : List A} → In e L → All P L → P e
-all-in here (also p h) = p
-all-in (there i) (also p h) = all-in i h
 
 -- a segment of the list, and each: itself, or one apart from it
 abbrev pub Meets : Segment → Segment → Type 0

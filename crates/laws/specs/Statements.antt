@@ -6,7 +6,7 @@ use mathlib.Core.Logic.{_↔_}
 use lib.Dec.{T}
 use lib.IntN.{ℤ, pos, _*ℤ_}
 use lib.Signed.{_<ℤ_}
-use Rattle.whole.specs.Sum.{All, Over, keep}
+use Rattle.whole.specs.Sum.{All, Over, keep, In}
 use Rattle.geom.specs.declared.Point.{Point}
 use Rattle.geom.specs.declared.Segment.{Segment}
 use Rattle.geom.specs.Plane.{Side, count, Before}
@@ -23,7 +23,7 @@ use Rattle.laws.specs.Ray.{ray}
 use Rattle.laws.specs.Boundary.{∂, balanced-is, region}
 use Rattle.laws.specs.Prepared.{prepared-balanced}
 use Rattle.laws.specs.Cuts.{split-balanced}
-use Rattle.laws.specs.Settled.{In, Settled}
+use Rattle.laws.specs.Settled.{Settled}
 use Rattle.laws.specs.Along.{both-ends}
 use Rattle.laws.specs.Upright.{left-is-top}
 use Rattle.laws.specs.Law.{sign, sign-law, signOfSides, sides-law}

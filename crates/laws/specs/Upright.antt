@@ -8,7 +8,7 @@ use mathlib.Core.Logic.{_⊎_, inl, inr}
 use lib.IntN.{ℤ, pos}
 use lib.Signed.{leZ, ltZ, _≤ℤ_, _<ℤ_}
 use Rattle.whole.specs.Order.{zz, add-is}
-use Rattle.whole.specs.Sum.{all-of, all-map, all-both, Over, over-same}
+use Rattle.whole.specs.Sum.{all-of, all-map, all-both, Over, over-same, In}
 use Rattle.whole.specs.Test.{is-true, is-false, and-l, and-r, and-same, tests, lt-of, le-of, eqZ-is}
 use Rattle.geom.specs.declared.Point.{Point}
 use Rattle.geom.specs.declared.Segment.{Segment}
@@ -20,7 +20,7 @@ use Rattle.scan.specs.Masks.{bottom, top}
 use Rattle.laws.specs.Sides.{reaches, below-left, left-side}
 use Rattle.laws.specs.Points.{then-upto, runs}
 use Rattle.laws.specs.Place.{up-left-a, up-left-b}
-use Rattle.laws.specs.Settled.{In, Settled, Meets, meets-in, place-of, only}
+use Rattle.laws.specs.Settled.{Settled, Meets, meets-in, place-of, only}
 use Rattle.laws.specs.Below.{lean-up, bottom-is}
 use Rattle.laws.specs.Column.{under-right, under-left, upto, columns}
 use Rattle.laws.specs.Node.{up-each, upright-zero}

@@ -12,12 +12,12 @@ use Rattle.whole.specs.Sum.{keep}
 use Rattle.geom.specs.declared.Segment.{Segment}
 use Rattle.geom.specs.Plane.{Side, subject, clip, count}
 use Rattle.geom.specs.Tests.{Decides, said, lt?}
-use Rattle.plane.specs.Decide.{or}
+use Rattle.whole.specs.Decide.{or, below?}
 use Rattle.segm.specs.Merge.{groups, isFar, anyFar, tooBig}
 use Rattle.split.specs.Look.{look, tidy}
 use Rattle.scan.specs.Masks.{live, crowdedFrom, crowded}
 use Rattle.checks.specs.Checks.{some}
-use Rattle.checks.specs.Exactly.{Has, below?, has?}
+use Rattle.checks.specs.Exactly.{Has, has?}
 use Rattle.overlay.specs.Looks.{radius}
 
 -- ---- 7: one look yields more marks, repeats counted, than mark capacity

@@ -10,7 +10,7 @@ use Rattle.geom.specs.declared.Point.{Point}
 use Rattle.geom.specs.declared.Segment.{Segment}
 use Rattle.geom.specs.Plane.{Before, before, sameZ, samePoint, against}
 use Rattle.geom.specs.Tests.{Decides, said, and, lt?, same?, before?, samePoint?}
-use Rattle.plane.specs.Decide.{or, opposite, truth}
+use Rattle.whole.specs.Decide.{or, opposite, test-is}
 
 -- p comes before q or is q
 abbrev pub UpTo : Point → Point → Type 0
@@ -108,4 +108,4 @@ module _ (e f : Segment) where
       (or (or in-line? (and (one-zero? (o₁ e f) (o₂ e f)) (one-zero? (o₁ f e) (o₂ f e)))) (or (one-side? (o₁ e f) (o₂ e f)) (one-side? (o₁ f e) (o₂ f e))))
 
   pub apart-is : T (apart e f) ↔ Apart e f
-  apart-is = truth apart?
+  apart-is = test-is apart?

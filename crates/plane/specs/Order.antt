@@ -5,11 +5,11 @@ use lib.Dec.{T}
 use Rattle.geom.specs.declared.Point.{Point}
 use Rattle.geom.specs.Plane.{Before, before, samePoint}
 use Rattle.geom.specs.Tests.{before?, samePoint?}
-use Rattle.plane.specs.Decide.{truth}
+use Rattle.whole.specs.Decide.{test-is}
 pub use Rattle.geom.specs.Order.{point-eq, before-irr, before-trans, Order, sooner, equal, later, order}
 
 pub before-is : (p q : Point) → T (before p q) ↔ Before p q
-before-is p q = truth (before? p q)
+before-is p q = test-is (before? p q)
 
 pub same-point-is : (p q : Point) → T (samePoint p q) ↔ (p ≡ q)
-same-point-is p q = truth (samePoint? p q)
+same-point-is p q = test-is (samePoint? p q)

@@ -8,7 +8,7 @@ use Rattle.geom.specs.declared.Point.{Point}
 use Rattle.geom.specs.declared.Segment.{Segment}
 use Rattle.geom.specs.Plane.{Before, between}
 use Rattle.geom.specs.Tests.{Decides, yes, no, said, between?}
-use Rattle.plane.specs.Decide.{or, opposite, truth}
+use Rattle.whole.specs.Decide.{or, opposite, test-is}
 use Rattle.plane.specs.Apart.{Apart, o₁, o₂}
 use Rattle.plane.specs.Meeting.{Meeting, collinear, none, touching, crossing, meeting, Case, all-zero, clear, end-of-f, end-of-e, through, case}
 use Rattle.plane.specs.Pierce.{Inside, Touch, a-of-f, b-of-f, a-of-e, b-of-e, touch-sym, touched, crossed, Different, lined-up}
@@ -75,4 +75,4 @@ module _ (e f : Segment) (be : Before (e .a) (e .b)) (bf : Before (f .a) (f .b))
       go (through s t) = no (λ h. not-both e f be bf h (cross-meets e f be bf (crossed e f s t)))
 
   pub unmarked-is : Different e f → T (unmarked e f) ↔ Apart e f
-  unmarked-is ne = truth (unmarked? ne)
+  unmarked-is ne = test-is (unmarked? ne)

@@ -21,7 +21,7 @@ use Rattle.split.specs.Look.{look, tidy, markOrder, sameMark}
 use Rattle.split.specs.LookLaws.{Number, look-cuts, cut-number}
 use Rattle.split.proofs.Tidying.{sameMark?}
 use Rattle.apply.specs.Answer.{names, earlier, leads, inOrder}
-use Rattle.demands.specs.Distinct.{distinct-strict}
+use Rattle.whole.specs.DistinctLaws.{distinct-strict}
 use Rattle.demands.specs.Pieces.{mark-order, tidy-all}
 use Rattle.overlay.specs.Looks.{radius}
 
