@@ -1,21 +1,24 @@
 -- Each tool of this crate on a goal of the kind it is for. Nothing is used elsewhere.
-use mathlib.Core.Path.{_≡_, refl, _∙_, ap}
-use mathlib.Core.Bool.{Bool, true, false, cond}
+use mathlib.Core.Path.{_≡_, refl, _∙_, ap, ap₂}
+use mathlib.Core.Bool.{Bool, true, false, cond, not}
 use mathlib.Core.List.{List, [], _∷_, _++_, map}
+use mathlib.Core.Logic.{_≢_}
 use Prim.Native.Nat.{ℕ, _*_, _<_, _≤_, _^_}
 use native.Mathlib.Omega.{arith}
 use lib.IntN.{ℤ, pos, _+ℤ_, _-ℤ_, _*ℤ_}
 use lib.ListN.{length, getD, take, drop}
-use lib.Signed.{mag, ltZ, _≤ℤ_, _<ℤ_}
-use mir.Syntax.{w64}
-use mir.Val.{SFits}
+use lib.Signed.{mag, ltZ, leZ, _≤ℤ_, _<ℤ_}
+use mir.Syntax.{w32, w64}
+use mir.Val.{SFits, toZ, ofZ}
 use Rattle.whole.specs.Order.{zz, zc, add-is, sub-is}
 use Rattle.whole.specs.Ring.{ring, reads}
 use Rattle.whole.specs.Compare.{in≤, out≤}
 use Rattle.whole.specs.Sign.{mul-nonneg, mul-mono, cancel-le, same}
 use Rattle.whole.specs.Fit.{apart, abs-mul-lt, fits-abs}
-use Rattle.whole.specs.Test.{tests, eqZ}
-use Rattle.whole.specs.Sum.{Sum, sum-sub, sum-map, sum-perm, sum-const, sum-swap, all-of}
+use Rattle.whole.specs.Test.{tests, lt-of, eqZ}
+use Rattle.whole.specs.Decide.{Decides, both, lt?, le?}
+use Rattle.whole.specs.Words.{below}
+use Rattle.whole.specs.Sum.{Pairs, Sum, keep, sum-append, sum-scale, sum-sub, sum-map, sum-perm, sum-const, sum-swap, sum-split, all-of}
 use Rattle.whole.specs.Total.{Total}
 use Rattle.whole.specs.Sorting.{Perm, Sorted, sort, unique, is-sort, sort-perm, sort-sorted, sort-length, insert}
 use Rattle.whole.specs.Swap.{swap, swap-perm}
@@ -26,6 +29,9 @@ use Rattle.whole.specs.KindLaws.{length-rows, length-front}
 use Rattle.whole.specs.KindSort.{byNumbers, sorted-front}
 use Rattle.whole.specs.Pass.{pass}
 use Rattle.whole.specs.Distinct.{distinct}
+use Rattle.whole.specs.DistinctLaws.{distinct-apart}
+use Rattle.whole.specs.Append.{putAll, Added}
+use Rattle.whole.specs.AppendLaws.{added-more, all-front}
 
 -- ---- identities: the turn of three points, over 0 where the third lies left of the way from the first to the second
 
@@ -84,7 +90,23 @@ largest-is : (a b : ℤ) → a ≡ b → largest a b ≡ a
 unfolding largest
 largest-is a b e = simp (tests, e)
 
+-- a test made of tests decides the sentence made of theirs
+inside? : (a b z : ℤ) → Decides ((a ≤ℤ z) × (z <ℤ b)) (cond (leZ a z) (ltZ z b) false)
+inside? a b z = both (le? a z) (lt? z b)
+
+-- two numbers read into locals, off their bits
+compared : (x y : ℤ) → mag x < 2 ^ 31 → mag y < 2 ^ 31 → ltZ (toZ w32 (ofZ w32 x)) (toZ w32 (ofZ w32 y)) ≡ true → x <ℤ y
+compared x y p q e = lt-of (below w32 x y p q e)
+
 -- ---- sums
+
+-- in two parts, each scaled
+in-parts : {A : Type 0} (f : A → ℤ) (k : ℤ) (K L : List A) → Sum (λ t. k *ℤ f t) (K ++ L) ≡ k *ℤ Sum f K +ℤ k *ℤ Sum f L
+in-parts f k K L = sum-append (λ t. k *ℤ f t) K L ∙ ap₂ _+ℤ_ (sum-scale k f K) (sum-scale k f L)
+
+-- those that pass a test and those that do not
+by-test : {A : Type 0} (f : A → ℤ) (p : A → Bool) (L : List A) → Sum f L ≡ Sum f (keep p L) +ℤ Sum f (keep (λ t. not (p t)) L)
+by-test f p L = sum-split f p L
 
 -- where first and second ends hold the same, the rises cancel
 balanced : {E N : Type 0} (a b : E → N) (height : N → ℤ) (L : List E) → Perm (map b L) (map a L)
@@ -169,3 +191,15 @@ module _ (xs ys : List ℤ) (fits : 2 * 3 ≤ length xs) (h : ys ≡ rows.flat (
 once : distinct eqZ (pos 2 ∷ pos 2 ∷ pos 3 ∷ []) ≡ pos 2 ∷ pos 3 ∷ []
 unfolding distinct pass
 once = refl
+
+each-once : {A : Type 0} {le : A → A → Bool} (o : Total le) (eq : A → A → Bool) (d : (x y : A) → Decides (x ≡ y) (eq x y)) (xs : List A)
+    → Pairs _≢_ (distinct eq (sort le xs))
+each-once {le = le} o eq d xs = distinct-apart o eq d (sort le xs) (sort-sorted o xs)
+
+-- ---- rows that come one after the other: two calls that append, and where both find room
+module _ (xs : List ℤ) (p q : Place) where
+  both-come : (room : ℕ) {ys zs : List ℤ} → Added places room 0 xs (p ∷ []) 1 ys → Added places room 1 ys (q ∷ []) 2 zs → Added places room 0 xs (p ∷ q ∷ []) 2 zs
+  both-come room a b = added-more a b
+
+  both-fit : 2 * 2 ≤ length xs → putAll places 2 xs 0 (p ∷ q ∷ []) ≡ front places xs (p ∷ q ∷ [])
+  both-fit h = all-front places 2 xs (p ∷ q ∷ []) (omega arith) h
