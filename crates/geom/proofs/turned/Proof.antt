@@ -10,7 +10,7 @@ negated-requires-2 : tie.Need-negated-requires-2
 negated-requires-2 c κs = search needs
 
 returns : tie.Need-returns
-returns c = rw (c .before .negated .ensures, c .negated2 .ensures)
+returns c = simp (c .before .negated .ensures, c .negated2 .ensures)
 
 pub turned-spec : {M : Type 1} → statement M
 turned-spec = tie.close (tie.spec negated-requires negated-requires-2 returns)
