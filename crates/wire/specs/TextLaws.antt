@@ -1,7 +1,7 @@
 -- Laws of the text: a number's digits one by one, its sign, a line by its pairs, the first of the lines.
-use mathlib.Core.Path.{_≡_, refl}
+use mathlib.Core.Path.{_≡_, refl, _∙_}
 use mathlib.Core.Bool.{Bool, true, false}
-use mathlib.Core.List.{List, [], _∷_, _++_, append-assoc}
+use mathlib.Core.List.{List, [], _∷_, _++_, append-assoc, append-nil}
 use Prim.Native.Nat.{ℕ, zero, suc, _+_, _-_, _*_, _/_, _%_, _<_, _≤_}
 use native.Mathlib.Numerals.{add-one}
 use native.Mathlib.Omega.{arith}
@@ -12,7 +12,7 @@ use borrow.Author.Tests.{lt-ltb, le-ltb, lt-leb, le-leb, ltb-true}
 use Rattle.whole.specs.Kind.{rowAt}
 use Rattle.geom.specs.declared.Segment.{Segment}
 use Rattle.geom.specs.Rows.{segments}
-use Rattle.overlay.specs.Numbers.{Told}
+use Rattle.overlay.specs.Numbers.{Told, refusal}
 use Rattle.wire.specs.Text.{newline, digitsWithin, decimal, number, spaced, line, linesFrom, head, written}
 
 -- ---- digits
@@ -77,3 +77,8 @@ module _ (t : Told) (rows : List ℤ) (bytes : List ℕ) where
       pub written-all : t .segments ≤ length bytes → written t rows bytes ≡ head (t .number) (t .segments) ++ linesFrom rows bytes 0 (t .segments)
       unfolding written
       written-all h = rw (le-leb (t .segments) 2048 l, le-leb (6 * t .segments) (length rows) r, le-leb (t .segments) (length bytes) h)
+
+-- a refusal is one line
+pub written-refusal : (k : ℕ) (rows : List ℤ) (bytes : List ℕ) → written (refusal k) rows bytes ≡ head k 0
+unfolding linesFrom
+written-refusal k rows bytes = written-all (refusal k) rows bytes (omega arith) (omega arith) (omega arith) ∙ append-nil (head k 0)

@@ -3,18 +3,18 @@ ghost use mathlib.Core.List.{_∷_, []};
 ghost use mathlib.Core.Path.{_≡_};
 ghost use Prim.Native.Nat.{_+_, _*_, _≤_};
 ghost use lib.IntN.{natAbs};
-ghost use lib.ListN.{length, getD};
-ghost use lib.Seq.{sets};
+ghost use lib.ListN.{length};
 ghost use Rattle.whole.specs.Kind.{rowAt};
 ghost use Rattle.geom.specs.Rows.{segments};
 ghost use Rattle.overlay.specs.Numbers.{told};
 ghost use Rattle.wire.specs.Put.{Put};
-ghost use Rattle.wire.specs.Text.{digitsWithin, decimal as decimalOf, number as numberOf, spaced, line as lineOf, linesFrom, head as headOf, written};
+ghost use Rattle.wire.specs.Text.{digitsWithin, number as numberOf, spaced, line as lineOf, linesFrom, head as headOf, written};
 use overlay::answer::Answer;
 
-// The text of an answer, whose rows and bytes stand at the front of the lists. The number of bytes that it has.
+// The text of an answer, whose rows and bytes stand at the front of the lists. How many bytes it has: at most 313,386.
 pub fn write(a: Answer, rows: &[i32], bytes: &[u8], out: &mut [u8]) -> usize
     ensures { λ r. ⌜ Put (now (out .entry)) 0 (written (told a) (now (rows .entry)) (now (bytes .entry))) r (now (out .exit)) ⌝ }
+    ensures { λ r. ⌜ r ≤ 313386 ⌝ }
 {
     let t = report::of(a);
     let m = t.segments;
@@ -38,6 +38,7 @@ fn lines(out: &mut [u8], at: usize, rows: &[i32], bytes: &[u8], m: usize) -> usi
     requires { ⌜ 6 * m ≤ length (now rows) ⌝ }
     requires { ⌜ m ≤ length (now bytes) ⌝ }
     ensures { λ r. ⌜ Put (now (out .entry)) at (linesFrom (now (rows .entry)) (now (bytes .entry)) 0 m) r (now (out .exit)) ⌝ }
+    ensures { λ r. ⌜ r ≤ 42 + 153 * m ⌝ }
 {
     let mut next = at;
     for i in 0..m {

@@ -48,7 +48,7 @@ returns c =
     let l = c .before .loop in
     let x = c .before .before .before .before .args in
     let none : x .m - l .i ≡ 0 = omega arith in
-    coming-none (l .inv .2) (rw none)
+    (coming-none (l .inv .2) (rw none), omega (arith, l .inv .1))
 
 pub lines-spec : {M : Type 1} → statement M
 lines-spec =

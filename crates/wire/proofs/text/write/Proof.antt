@@ -18,7 +18,7 @@ returns : tie.Need-returns
 returns c =
     let x = c .before .before .before .before .args in
     let e = ap (λ (r : Report). r .segments) (c .before .of .ensures) in
-    put-as (sym (over-limit (told (x .a)) (x .rows .now) (x .bytes .now) (omega (arith, e, c .if1 .taken)))) put-none
+    (put-as (sym (over-limit (told (x .a)) (x .rows .now) (x .bytes .now) (omega (arith, e, c .if1 .taken)))) put-none, omega arith)
 
 mul-if2 : tie.Need-mul-if2
 mul-if2 c = search needs
@@ -27,13 +27,13 @@ returns-2 : tie.Need-returns-2
 returns-2 c =
     let x = c .before .before .before .before .before .args in
     let e = ap (λ (r : Report). r .segments) (c .before .before .of .ensures) in
-    put-as (sym (few-rows (told (x .a)) (x .rows .now) (x .bytes .now) (omega (arith, e, c .before .if1 .left)) (omega (arith, e, c .if2 .taken)))) put-none
+    (put-as (sym (few-rows (told (x .a)) (x .rows .now) (x .bytes .now) (omega (arith, e, c .before .if1 .left)) (omega (arith, e, c .if2 .taken)))) put-none, omega arith)
 
 returns-3 : tie.Need-returns-3
 returns-3 c =
     let x = c .before .before .before .before .before .before .args in
     let e = ap (λ (r : Report). r .segments) (c .before .before .before .of .ensures) in
-    put-as (sym (few-bytes (told (x .a)) (x .rows .now) (x .bytes .now) (omega (arith, e, c .before .before .if1 .left)) (omega (arith, e, c .before .if2 .left)) (omega (arith, e, c .if3 .taken)))) put-none
+    (put-as (sym (few-bytes (told (x .a)) (x .rows .now) (x .bytes .now) (omega (arith, e, c .before .before .if1 .left)) (omega (arith, e, c .before .if2 .left)) (omega (arith, e, c .if3 .taken)))) put-none, omega arith)
 
 head-requires : tie.Need-head-requires
 head-requires c κs = search needs
@@ -51,7 +51,7 @@ returns-4 c =
     let e = ap (λ (r : Report). r .segments) o in
     let all = written-all (told (x .a)) (x .rows .now) (x .bytes .now) (omega (arith, e, c .before .before .before .before .before .before .before .before .before .before .if1 .left)) (omega (arith, e, c .before .before .before .before .before .before .before .before .before .if2 .left)) (omega (arith, e, c .before .before .before .before .before .before .before .before .if3 .left)) in
     let same = ap (λ (r : Report). head (r .answer) (r .segments) ++ linesFrom (x .rows .now) (x .bytes .now) 0 (r .segments)) o in
-    put-as (same ∙ sym all) (put-more (c .before .before .before .before .before .before .head .ensures .0) (c .before .before .lines .ensures))
+    (put-as (same ∙ sym all) (put-more (c .before .before .before .before .before .before .head .ensures .0) (c .before .before .lines .ensures .0)), omega (arith, c .before .before .lines .ensures .1, c .before .before .before .before .before .before .before .before .before .before .if1 .left))
 
 pub write-spec : {M : Type 1} → statement M
 write-spec =
