@@ -74,7 +74,7 @@ fn word(bytes: &[u8], k: usize) -> u32
 }
 
 // The same bits in two's complement.
-fn signed(u: u32) -> i32
+pub fn signed(u: u32) -> i32
     ensures { λ r. ⌜ r ≡ signedOf u ⌝ }
 {
     if u < 2147483648 {
