@@ -1,5 +1,5 @@
 -- Looks within the budget: each is the definition's next, and it is the last exactly if none is left after it.
-use mathlib.Core.Path.{_≡_, refl, sym, _∙_}
+use mathlib.Core.Path.{_≡_, sym, _∙_}
 use mathlib.Core.List.{List}
 use mathlib.Core.Logic.{⊎-elim}
 use Prim.Native.Nat.{ℕ, zero, suc, _+_, _-_, _<_}
@@ -15,7 +15,7 @@ use Rattle.run.specs.Step.{looksAllowed}
 module _ (marks work : ℕ) where
   allowed-step : (left made : ℕ) (L : List Segment) → looksAllowed marks work (suc left) made L ≡ lookAt marks work (eqb left 0) made L (looksAllowed marks work left (suc made))
   unfolding looksAllowed looksFrom
-  allowed-step zero made L = refl
+  allowed-step zero made L = cc
   allowed-step (suc left) made L = rw (ne-eqb (suc left) 0 (λ e. omega arith))
 
   last-is : (made budget : ℕ) → made < budget → eqb (made + 1) budget ≡ eqb (budget - (made + 1)) 0

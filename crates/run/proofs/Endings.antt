@@ -1,5 +1,5 @@
 -- How a run ends: all lists cleared, or the sweep of a settled list, which a list that keeps what every list keeps refuses with 11 only.
-use mathlib.Core.Path.{_≡_, refl, sym, ap, _∙_, subst}
+use mathlib.Core.Path.{_≡_, refl, sym, ap, ap₂, _∙_, subst}
 use mathlib.Core.Bool.{Bool, true, false, cond}
 use mathlib.Core.List.{List, [], _∷_, _++_}
 use Prim.Native.Nat.{ℕ, _*_, _≤_}
@@ -24,8 +24,9 @@ use Rattle.build.specs.Fill as fill
 use Rattle.build.proofs.sweep.Filled.{the-type}
 use Rattle.overlay.specs.declared.answer.Answer.{Answer}
 use Rattle.overlay.specs.declared.answer.Answer.the-variants.{Settled, ScanFull as Crowded}
+use Rattle.overlay.specs.Numbers.{answer0}
 use Rattle.overlay.specs.Looks.{settled}
-use Rattle.overlay.specs.Outcome.{Lent, zeros, noMasks, cleared, finished, swept}
+use Rattle.overlay.specs.Outcome.{Lent, Outcome, zeros, noMasks, cleared, finished, swept}
 use Rattle.run.specs.Kept.{Kept}
 use Rattle.run.specs.Lent.{lent, ended}
 use Rattle.run.proofs.Sound.{sound-on, sound-long, sound-near}
@@ -57,9 +58,10 @@ module _ (s : Settings) (l : Lent) (k looks : ℕ) (range : InRange s) (kept : K
       rw (few, rows, masks, le-ltb 3 (s .fill) (range .fill), le-ltb 6 (s .rule) (range .rule), none-faulty (all-map (λ v. sound-on) (kept .sound)), none-faulty (all-map (λ v. sound-long) (kept .sound)), none-faulty (all-map (λ v. sound-near) (kept .sound)))
 
   module _ {r : Filled} {sc : List ℤ} {ms : List ℕ} (e : fill.outcome r sc ms ≡ fill.filled (l .work) k (s .fill) (s .rule) (l .scan) (l .masks)) where
-    pub settles : {w m : List ℤ} → r ≡ Done → w ≡ front segments (zeros (l .work)) L → m ≡ zeros (l .marks) → ended (Settled k looks) w m sc ms ≡ swept s l (settled L looks)
+    pub settles : {o : Outcome} {w m : List ℤ} → o .answer ≡ answer0 k looks → o .lists ≡ lent w m sc ms → r ≡ Done → w ≡ front segments (zeros (l .work)) L → m ≡ zeros (l .marks)
+        → o ≡ swept s l (settled L looks)
     unfolding swept finished
-    settles {w} {m} d f g = go full (e ∙ filled-is)
+    settles {w = w} {m = m} p q d f g = ap₂ (λ a t. record { answer = a; lists = t }) p q ∙ go full (e ∙ filled-is)
       where
         go : (b : Bool) → fill.outcome r sc ms ≡ sweptBy b → ended (Settled k looks) w m sc ms ≡ cond b (cleared l Crowded) (finished s l L looks)
         go true h = let q : Done ≡ ScanFull = sym d ∙ ap (λ o. o .answer) h in absurd (let z : _≡_ {A = ℕ} 0 1 = cc in omega arith)

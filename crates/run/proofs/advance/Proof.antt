@@ -1,6 +1,7 @@
 -- Each way out of a look is a clause of the definition, as the laws of Looking say.
 use mathlib.Core.Path.{_∙_, subst}
 use mathlib.Core.List.{List}
+use native.Mathlib.Omega.{arith}
 use lib.IntN.{ℤ}
 use Rattle.run.specs.Kept.{Kept}
 use Rattle.run.specs.Step.{goesOn, StillKept}
@@ -24,13 +25,13 @@ module _ (c : tie.After-count) where
   start = after .before .before .before .before
 
   counted : Found (xs start) (start .args .m) (start .pre .0) (zs start) (c .count .given .0 .0)
-  counted = found (xs start) (start .args .m) (start .pre .0) (zs start) (after .look .ensures .0) (c .count .given .1)
+  counted = found (xs start) (start .args .m) (start .pre .0) (zs start) (cc) (c .count .given .1)
 
 returns : tie.Need-returns
 unfolding goesOn StillKept
 returns c =
     let s = c .before in
-    (λ f. no-rows (xs s) (s .args .m) (s .pre .0) (zs s) (s .args .last) (s .args .made) f (c .if1 .taken), subst (Kept (xs s)) (c .if1 .taken) (s .pre .0))
+    (λ f. cc (no-rows (xs s) (s .args .m) (s .pre .0) (zs s) (s .args .last) (s .args .made) f (c .if1 .taken)), subst (Kept (xs s)) (c .if1 .taken) (s .pre .0))
 
 look-requires : tie.Need-look-requires
 look-requires c κs = search needs
@@ -49,7 +50,7 @@ unfolding goesOn StillKept
 returns-2 c =
     let a = c .before .before in
     let s = a .before .before .before .before in
-    (λ f. refuses-7 (xs s) (s .args .m) (s .pre .0) (zs s) (s .args .last) (s .args .made) f (a .before .before .before .if1 .left) (a .look .ensures .0) (c .match .keys2), tt)
+    (λ f. cc (refuses-7 (xs s) (s .args .m) (s .pre .0) (zs s) (s .args .last) (s .args .made) f (a .before .before .before .if1 .left) (a .look .ensures .0) (c .match .keys2)), tt)
 
 add-t14 : tie.Need-add-t14
 add-t14 c = search needs
@@ -65,7 +66,7 @@ unfolding goesOn StillKept
 returns-3 c =
     let k = c .before .before in
     let s = start k in
-    (λ f. settles (xs s) (s .args .m) (s .pre .0) (zs s) (s .args .last) (s .args .made) f (k .before .before .before .before .before .before .if1 .left) (counted k) (c .if2 .taken), s .pre .0)
+    (λ f. cc (settles (xs s) (s .args .m) (s .pre .0) (zs s) (s .args .last) (s .args .made) f (k .before .before .before .before .before .before .if1 .left) (counted k) (omega arith)), s .pre .0)
 
 same-length-5 : tie.Need-same-length-5
 same-length-5 c = search needs
@@ -78,7 +79,7 @@ unfolding goesOn StillKept
 returns-4 c =
     let k = c .before .before .before in
     let s = start k in
-    (λ f. refuses-10 (xs s) (s .args .m) (s .pre .0) (zs s) (s .args .last) (s .args .made) f (k .before .before .before .before .before .before .if1 .left) (counted k) (c .before .if2 .left) (c .if3 .taken), tt)
+    (λ f. cc (refuses-10 (xs s) (s .args .m) (s .pre .0) (zs s) (s .args .last) (s .args .made) f (k .before .before .before .before .before .before .if1 .left) (counted k) (c .before .if2 .left) (c .if3 .taken)), tt)
 
 cut-requires : tie.Need-cut-requires
 cut-requires c κs =

@@ -42,7 +42,7 @@ module _ (c : tie.After-apply) where
   tidied = is-tidy (start .pre .1) (known .k .given .1) (begun .tidy .ensures .1 .1)
 
   answered : c .apply .result ≡ applyAnswer (xs start) (start .args .m) (begun .tidy .last .0) (length (tidy (look radius (L start))))
-  answered = c .apply .ensures .0 ∙ ap (applyAnswer (xs start) (start .args .m) (begun .tidy .last .0)) number
+  answered = cc (c .apply .ensures .0, number)
 
   divided : {p : ℕ} → c .apply .result ≡ Pieces p → Split (L start) (c .apply .last .0) (length (xs start)) p
   divided e =
@@ -88,7 +88,7 @@ unfolding goesOn StillKept
 returns-2 c =
     let a = c .before .before in
     let s = start a in
-    (refuses-8 (xs s) (s .args .m) (s .pre .0) (is-full (xs s) (s .args .m) (s .pre .0) (tidied a) (answered a) (c .match2 .keys2)), tt)
+    (λ f. cc (refuses-8 (xs s) (s .args .m) (s .pre .0) (is-full (xs s) (s .args .m) (s .pre .0) (tidied a) (answered a) (c .match2 .keys2)) f), tt)
 
 join-requires : tie.Need-join-requires
 join-requires c κs =
@@ -113,7 +113,7 @@ returns-3 c =
     let j = c .before .before .before in
     let p = j .before .before .before in
     let s = start (applied p) in
-    (refuses-9 (xs s) (s .args .m) (s .pre .0) (pieces p) (j .join .ensures .0) (c .enum-told2 .given .1), tt)
+    (λ f. cc (refuses-9 (xs s) (s .args .m) (s .pre .0) (pieces p) (j .join .ensures .0) (c .enum-told2 .given .1) f), tt)
 
 same-length-6 : tie.Need-same-length-6
 same-length-6 c = search needs

@@ -1,5 +1,5 @@
 -- The sweep ends the run: with 11, all lists cleared; else the rows stay and what lies behind them is cleared, with the marks.
-use mathlib.Core.Path.{_∙_}
+use mathlib.Core.Path.{refl, _∙_}
 use Rattle.overlay.specs.Outcome.{Lent}
 use Rattle.run.specs.Lent.{lent}
 use Rattle.run.proofs.Endings.{settles, refuses-11}
@@ -67,7 +67,7 @@ returns-2 c =
     let f = m .before .before .before .before .before in
     let s = begun f in
     let x = s .args in
-    settles (x .settings) (lists s) (x .k) (x .looks) (s .pre .0) (s .pre .1 .0) (s .pre .1 .1) (f .fill .ensures) (m .enum-told .given .1) (b .clear-behind .ensures) (c .before .clear-i32 .ensures)
+    settles (x .settings) (lists s) (x .k) (x .looks) (s .pre .0) (s .pre .1 .0) (s .pre .1 .1) (f .fill .ensures) (cc) refl (m .enum-told .given .1) (b .clear-behind .ensures) (c .before .clear-i32 .ensures)
 
 pub finish-spec : {M : Type 1} → statement M
 finish-spec =

@@ -1,5 +1,5 @@
 -- The looks still to come are those of the definition: each turn makes one of them.
-use mathlib.Core.Path.{_≡_, refl, sym, ap, ap₂, _∙_, subst}
+use mathlib.Core.Path.{_≡_, refl, sym, ap, _∙_, subst}
 use Prim.Native.Nat.{ℕ, _+_, _-_, _≤_}
 use native.Mathlib.Omega.{arith}
 use lib.ListN.{length}
@@ -48,7 +48,7 @@ module _ (c : tie.After-advance Inv-loop μ-loop) where
       let W = workRoom (length (x .work .now)) in
       let L = rowsFrom segments (l .work) 0 (l .rows) in
       let rest = looksAllowed M W (x .budget - (l .made + 1)) (l .made + 1) in
-      let look = ap₂ (λ a b. lookAt (markRoom a) (workRoom b) (eqb (l .made + 1) (x .budget)) (l .made) L rest) (sym (l .inv .2)) (sym (l .inv .1)) ∙ c .advance .ensures .0 rest in
+      let look : lookAt M W (eqb (l .made + 1) (x .budget)) (l .made) L rest ≡ after (c .advance .result) = cc (l .inv .1, l .inv .2, c .advance .ensures .0 rest) in
       sym (sym (l .inv .4) ∙ allowed-next M W (l .made) (x .budget) L (omega arith) ∙ look ∙ ap after e)
 
   still : {r : Step} → c .advance .result ≡ r → StillKept (c .advance .last .0) r

@@ -46,13 +46,6 @@ same-length-3 c = search needs
 same-length-4 : tie.Need-same-length-4
 same-length-4 c = search needs
 
-returns : tie.Need-returns
-unfolding outcome unless
-returns c =
-    let r = c .before .before .before .before .before in
-    let e = r .before .before .before .before .before in
-    rw (sym (e .before .before .check .ensures .0) ∙ e .enum-told .given .1) (r .run .ensures)
-
 returns-2 : tie.Need-returns-2
 unfolding outcome unless
 returns-2 c = rw (sym (c .before .before .check .ensures .0) ∙ c .enum-told2 .given .1)
@@ -76,6 +69,13 @@ returns-6 c = rw (sym (c .before .before .check .ensures .0) ∙ c .enum-told6 .
 returns-7 : tie.Need-returns-7
 unfolding outcome unless
 returns-7 c = rw (sym (c .before .before .check .ensures .0) ∙ c .enum-told7 .given .1)
+
+returns : tie.Need-returns
+unfolding outcome unless
+returns c =
+    let r = c .before .before .before .before .before in
+    let e = r .before .before .before .before .before in
+    rw (sym (e .before .before .check .ensures .0) ∙ e .enum-told .given .1) (r .run .ensures)
 
 pub overlay-spec : {M : Type 1} → statement M
 overlay-spec =

@@ -17,6 +17,14 @@ clear-i64-requires c κs = search needs
 clear-u8-requires : tie.Need-clear-u8-requires
 clear-u8-requires c κs = search needs
 
+returns : tie.Need-returns
+returns c =
+    let work = c .before .before .before .before .before .before .before .before .before .before .before in
+    let marks = c .before .before .before .before .before .before .before .before in
+    let scan = c .before .before .before .before .before in
+    let x = work .before .before .before .args in
+    all-cleared (lent (x .work .now) (x .marks .now) (x .scan .now) (x .masks .now)) (x .a) (cc (work .clear-i32 .ensures)) (cc (marks .clear-i322 .ensures)) (cc (scan .clear-i64 .ensures)) (cc (c .before .before .clear-u8 .ensures))
+
 same-length : tie.Need-same-length
 same-length c = search needs
 
@@ -28,14 +36,6 @@ same-length-3 c = search needs
 
 same-length-4 : tie.Need-same-length-4
 same-length-4 c = search needs
-
-returns : tie.Need-returns
-returns c =
-    let work = c .before .before .before .before .before .before .before .before .before .before .before in
-    let marks = c .before .before .before .before .before .before .before .before in
-    let scan = c .before .before .before .before .before in
-    let x = work .before .before .before .args in
-    all-cleared (lent (x .work .now) (x .marks .now) (x .scan .now) (x .masks .now)) (x .a) (work .clear-i32 .ensures) (marks .clear-i322 .ensures) (scan .clear-i64 .ensures) (c .before .before .clear-u8 .ensures)
 
 pub refuse-spec : {M : Type 1} → statement M
 refuse-spec =
