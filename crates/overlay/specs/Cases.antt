@@ -129,7 +129,7 @@ edges =
 marked : List ℕ
 marked = 2 ∷ 1 ∷ 2 ∷ 27 ∷ 23 ∷ 8 ∷ 30 ∷ 8 ∷ 1 ∷ 29 ∷ 4 ∷ 4 ∷ []
 
--- the printed run; then with budget 1, with room for 3 marks, for 11 segments, for 3 scan entries
+-- the printed run; then with budget 1, with room for 3 marks, for 11 segments, for 3 scan entries; with budget 1 and room for 3 marks (7 before 10); n = 0
 runs :
     (outcome squares (settings 2) (lent 12 4 4)
     ≡ record { answer = answer0 12 2; lists = record { work = edges ++ pos 0 ∷ []; marks = replicate 13 (pos 0); scan = replicate 13 (pos 0); masks = marked ++ 0 ∷ [] } })
@@ -141,5 +141,7 @@ runs :
     ≡ record { answer = refusal 8; lists = record { work = replicate 67 (pos 0); marks = replicate 13 (pos 0); scan = replicate 13 (pos 0); masks = replicate 12 0 } })
     × (outcome squares (settings 2) (lent 12 4 3)
     ≡ record { answer = refusal 11; lists = record { work = replicate 73 (pos 0); marks = replicate 13 (pos 0); scan = replicate 10 (pos 0); masks = replicate 13 0 } })
+    × (outcome squares (settings 1) (lent 12 3 4) .answer ≡ refusal 7)
+    × (outcome squares (record { n = 0; fill = 1; rule = 2; budget = 2 }) (lent 12 4 4) .answer ≡ answer0 0 0)
 unfolding square squares settings lent edges marked pick lex insert sort rowAt flat rowsFrom front pass distinct Sum Over keep onGrid gridPoint gridSegment before between samePoint upright turn sideOf forward sameEnds plus groupsFrom groups isEmpty mergedFrom merged isFar anyFar balancedAt balancedOver closed inner level nearest quotient crossPoint onBoth far nearer reach snapped middle crossBy crossing one lineMarks kindMarks crossMarks marksWith lookFrom sameMark tidy pointsOf addTo columns nextY lastOf chainFrom piecesFrom splitFrom inside kept alive lean lower under below bottom top live maskOf byteOf crowdedFrom isShort isBad some faultOf joined lookAt looksFrom ran finished swept unless outcome
-runs = (refl, refl, refl, refl, refl)
+runs = (refl, refl, refl, refl, refl, refl, refl)

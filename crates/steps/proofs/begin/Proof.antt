@@ -29,7 +29,7 @@ read-requires c κs = omega arith
 forward-requires : tie.Need-forward-requires Inv-loop μ-loop
 forward-requires c κs =
     let s = c .before .before .before .before in
-    countable (s .args .input .now) (s .args .n) (s .pre .1 .1) (c .before .before .before .loop .i) (omega arith) (c .before .read .result) (c .before .read .ensures) (sfits-of {w = w32} (c .before .read .ok .1 .1 .1 .1 .0 .1 .1 .0 .1)) (sfits-of {w = w32} (c .before .read .ok .1 .1 .1 .1 .1 .0 .1 .1 .0 .1))
+    countable (s .args .input .now) (s .args .n) (s .pre .1 .1) (c .before .before .before .loop .i) (omega arith) (c .before .read .result) (cc (c .before .read .ensures)) (sfits-of {w = w32} (c .before .read .ok .1 .1 .1 .1 .0 .1 .1 .0 .1)) (sfits-of {w = w32} (c .before .read .ok .1 .1 .1 .1 .1 .0 .1 .1 .0 .1))
 
 write-requires : tie.Need-write-requires Inv-loop μ-loop
 write-requires c κs = omega arith
@@ -47,8 +47,8 @@ loop-again c =
     let i = l .i in
     let input = s .args .input .now in
     let n = s .args .n in
-    let v : c .before .before .forward .result ≡ forward (rowAt segments input i) = c .before .before .forward .ensures ∙ ap forward (c .before .before .before .before .read .ensures) in
-    let stored : c .before .write .last .0 ≡ putRow segments (l .work) i (forward (rowAt segments input i)) = c .before .write .ensures ∙ ap (putRow segments (l .work) i) v in
+    let v : c .before .before .forward .result ≡ forward (rowAt segments input i) = cc (c .before .before .forward .ensures, c .before .before .before .before .read .ensures) in
+    let stored : c .before .write .last .0 ≡ putRow segments (l .work) i (forward (rowAt segments input i)) = cc (c .before .write .ensures, v) in
     (omega arith, ap length stored ∙ length-put segments (l .work) i (forward (rowAt segments input i)) ∙ l .inv .1, ap (toCome input n (i + 1)) stored ∙ sym (come-step input n i (l .work) (omega arith)) ∙ l .inv .2)
 
 same-length : tie.Need-same-length Inv-loop μ-loop
@@ -59,7 +59,7 @@ returns c =
     let l = c .before .loop in
     let s = c .before .before in
     let input = s .args .input .now in
-    sym (come-end input (s .args .n) (l .i) (l .work) (omega arith)) ∙ l .inv .2 ∙ come-all input (s .args .n) (s .args .work .now) (omega arith)
+    cc (come-end input (s .args .n) (l .i) (l .work) (omega arith), l .inv .2, come-all input (s .args .n) (s .args .work .now) (omega arith))
 
 pub begin-spec : {M : Type 1} → statement M
 begin-spec =

@@ -28,7 +28,7 @@ same-length c = search needs
 returns : tie.Need-returns
 returns c =
     let x = c .before .before .before .args in
-    cleared-behind (x .work .now) (x .m) (c .before .before .before .pre) (c .before .clear-i32 .ensures)
+    cc (cleared-behind (x .work .now) (x .m) (c .before .before .before .pre) {ys = c .before .clear-i32 .last .0} (cc (c .before .clear-i32 .ensures)))
 
 pub clear-behind-spec : {M : Type 1} → statement M
 clear-behind-spec =

@@ -24,7 +24,7 @@ module _ (c : tie.After-merge) where
       let xs = start .args .work .now in
       let n = start .args .n in
       let s = c .before .before .before .sort in
-      joined xs n (start .pre .0) (start .pre .1) (sorted-list xs n (start .pre .0) (start .pre .1) (s .ensures .0) (s .ensures .1)) (c .merge .ensures .0) (c .merge .ensures .1 .1)
+      joined xs n (start .pre .0) (start .pre .1) (sorted-list xs n (start .pre .0) (start .pre .1) {r = s .result} {ys = s .last .0} (cc (s .ensures .0)) (s .ensures .1)) (c .merge .ensures .0) (c .merge .ensures .1 .1)
 
 enum-known-m : tie.Need-enum-known-m
 enum-known-m c = search needs
@@ -45,7 +45,7 @@ returns : tie.Need-returns
 unfolding said
 returns c =
     let e = merged (c .before .before .before .before) in
-    (sym (ap said (c .before .m .given .1)) ∙ e .0, e .1)
+    (cc (ap said (c .before .m .given .1), e .0), e .1)
 
 same-length-2 : tie.Need-same-length-2
 same-length-2 c = search needs
@@ -54,7 +54,7 @@ returns-2 : tie.Need-returns-2
 unfolding said
 returns-2 c =
     let e = merged (c .before .before .before .before) in
-    (sym (ap said (c .before .m2 .given .1)) ∙ e .0, e .1)
+    (cc (ap said (c .before .m2 .given .1), e .0), e .1)
 
 same-length-3 : tie.Need-same-length-3
 same-length-3 c = search needs
@@ -63,7 +63,7 @@ returns-3 : tie.Need-returns-3
 unfolding said
 returns-3 c =
     let e = merged (c .before .before .before) in
-    (sym (ap said (c .enum-told .given .1)) ∙ e .0, e .1)
+    (cc (ap said (c .enum-told .given .1), e .0), e .1)
 
 same-length-4 : tie.Need-same-length-4
 same-length-4 c = search needs
@@ -72,7 +72,7 @@ returns-4 : tie.Need-returns-4
 unfolding said
 returns-4 c =
     let e = merged (c .before .before .before) in
-    (sym (ap said (c .enum-told2 .given .1)) ∙ e .0, e .1)
+    (cc (ap said (c .enum-told2 .given .1), e .0), e .1)
 
 pub join-spec : {M : Type 1} → statement M
 join-spec =
