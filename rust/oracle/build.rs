@@ -24,6 +24,7 @@ fn main() {
         return;
     }
     println!("cargo:rustc-cfg=i_overlay");
+    println!("cargo:found=1");
     FILES.iter().for_each(|file| point_to(&folder, file));
     if folder.join(OWN_LOOP).is_file() {
         println!("cargo:rustc-cfg=own_loop");

@@ -1,7 +1,8 @@
 //! The crate against the model: whole runs, pairs, merges and the keep decision. A difference is a panic that shows the case.
 
-use crate::cases::{self, outline, Case};
-use crate::model::{self, Limits};
+use crate::cases::{self, Case};
+use crate::inputs;
+use crate::model;
 use crate::random::Random;
 use crate::{Outcome, Row};
 
@@ -32,49 +33,15 @@ impl Counts {
     }
 
     pub fn random_runs(&mut self, seed: u64, runs: usize) {
-        let mut random = Random::new(seed);
-        for _ in 0..runs {
-            self.run(&cases::any(&mut random));
-        }
+        inputs::random_runs(seed, runs, |case| drop(self.run(case)));
     }
 
-    /// Every two triangles on the grid of 3 by 3 points, flat ones too, one subject and one clip; the rules take turns.
     pub fn all_triangles(&mut self) {
-        let points: Vec<(i32, i32)> = (0..9).map(|k| (k / 3, k % 3)).collect();
-        let mut triangles = Vec::new();
-        for (i, p) in points.iter().enumerate() {
-            for (j, q) in points.iter().enumerate().skip(i + 1) {
-                for r in &points[j + 1..] {
-                    triangles.extend([[*p, *q, *r], [*r, *q, *p]]);
-                }
-            }
-        }
-        for subject in &triangles {
-            for clip in &triangles {
-                let input = [outline(subject, 1, 0), outline(clip, 0, 1)].concat();
-                let turn = self.runs() as u32;
-                let ample = Limits { segments: 60, marks: 200, scan: 60 };
-                self.run(&Case::new(input, turn % 4, turn % 7, 64, ample));
-            }
-        }
+        inputs::all_triangles(|case| drop(self.run(case)));
     }
 
-    /// Long lists: short scattered triangles, and a few long ones across them.
     pub fn long_lists(&mut self, seed: u64, runs: usize) {
-        let mut random = Random::new(seed);
-        for _ in 0..runs {
-            let mut input = Vec::new();
-            for k in 0..400 {
-                let size = if k < 2 { 20_000 } else { 400 };
-                let (x, y) = (random.between(0, 20_000), random.between(0, 20_000));
-                let near = |r: &mut Random| (x + r.between(-size, size), y + r.between(-size, size));
-                let triangle = [near(&mut random), near(&mut random), near(&mut random)];
-                input.extend(outline(&triangle, random.between(0, 1), random.between(-1, 1)));
-            }
-            let most = Limits { segments: 2048, marks: 4096, scan: 2048 };
-            let (fill, rule) = (random.between(0, 3) as u32, random.between(0, 6) as u32);
-            self.run(&Case::new(input, fill, rule, 64, most));
-        }
+        inputs::long_lists(seed, runs, |case| drop(self.run(case)));
     }
 
     /// One pair, at the radius of document 01 and at another.
@@ -88,33 +55,13 @@ impl Counts {
         }
     }
 
-    /// Every two segments on a square grid, each in both directions.
     pub fn all_pairs(&mut self, size: i32) {
-        let points = || (0..size * size).map(|k| (k / size, k % size));
-        let segments: Vec<[i32; 4]> =
-            points().flat_map(|a| points().filter(move |b| a != *b).map(move |b| [a.0, a.1, b.0, b.1])).collect();
-        for target in &segments {
-            for other in &segments {
-                self.pair(*target, *other, 1);
-            }
-        }
+        inputs::all_pairs(size, |target, other| self.pair(target, other, 1));
     }
 
-    /// Sides of random outlines, and pairs of nearly one direction across the whole grid.
+    /// So many, counting each radius.
     pub fn random_pairs(&mut self, seed: u64, pairs: usize) {
-        let mut random = Random::new(seed);
-        let radii = [0, 1, 4, 64, 2048, 1 << 40];
-        let end = self.pairs + pairs;
-        while self.pairs < end {
-            let input = cases::any(&mut random).input;
-            let rows = input.chunks_exact(6).map(|row| [row[0], row[1], row[2], row[3]]);
-            let rows: Vec<[i32; 4]> = rows.filter(is_valid).collect();
-            for target in &rows {
-                for other in &rows {
-                    self.pair(*target, *other, random.pick(&radii));
-                }
-            }
-        }
+        inputs::random_pairs(seed, pairs / 2, |target, other, radius| self.pair(target, other, radius));
     }
 
     /// Sorted rows with few different ends, counts small or at the limits.
@@ -134,12 +81,6 @@ impl Counts {
             self.merges += 1;
         }
     }
-}
-
-/// On the grid, and not a point.
-fn is_valid([ax, ay, bx, by]: &[i32; 4]) -> bool {
-    let grid = -(1 << 30)..1 << 30;
-    [ax, ay, bx, by].into_iter().all(|z| grid.contains(z)) && (ax, ay) != (bx, by)
 }
 
 /// How many of the 112 pairs of a rule and a mask are kept, the same by both.

@@ -23,6 +23,7 @@ pub(crate) use shims::{
 pub mod cases;
 #[cfg(i_overlay)]
 pub mod compare;
+pub mod inputs;
 pub mod model;
 #[cfg(i_overlay)]
 mod oracle;
