@@ -1,15 +1,21 @@
--- A loop over rows that stops at the first one with a fault: what is left to look at has one exactly if the whole list has one. One law for each event.
+-- A loop over rows that stops at the first one with a fault: what is left to look at has one exactly if the whole list has one. One law for each event. And what a list without the fault says of each row.
 use mathlib.Core.Path.{_≡_, sym, ap, _∙_}
 use mathlib.Core.Bool.{Bool, true, false, _||_}
 use mathlib.Core.List.{List}
-use Prim.Native.Nat.{ℕ, _+_, _-_, _<_, _≤_}
+use mathlib.Core.Logic.{⊎-elim}
+use Prim.Native.Nat.{ℕ, zero, suc, _+_, _-_, _<_, _≤_}
 use native.Mathlib.Nat.{sub-zero}
+use native.Mathlib.Omega.{arith}
 use lib.IntN.{ℤ}
 use Rattle.whole.specs.Kind.{rowAt, rowsFrom}
 use Rattle.whole.specs.KindLaws.{rows-step, rows-done}
+use Rattle.whole.specs.Test.{neither, not-false}
+use Rattle.whole.specs.Total.{same-or}
 use Rattle.geom.specs.declared.Segment.{Segment}
+use Rattle.geom.specs.Plane.{GridSegment, gridSegment}
 use Rattle.geom.specs.Rows.{segments}
-use Rattle.checks.specs.Checks.{some}
+use Rattle.geom.specs.Tests.{when-true, gridSegment?}
+use Rattle.checks.specs.Checks.{some, isOff}
 
 abbrev whole : (Segment → Bool) → List ℤ → ℕ → Bool
 whole fault xs n = some fault (rowsFrom segments xs 0 n)
@@ -36,3 +42,17 @@ module _ {fault : Segment → Bool} {xs : List ℤ} {n i : ℕ} (k : Clean fault
   pub clean-end : n ≤ i → false ≡ whole fault xs n
   unfolding some
   clean-end h = sym (ap (some fault) (rows-done segments xs n i h)) ∙ k .rest
+
+-- ---- none has it: no row has it
+
+pub clean-at : (fault : Segment → Bool) (xs : List ℤ) (k i : ℕ) → some fault (rowsFrom segments xs i k) ≡ false → (j : ℕ) → i ≤ j → j < i + k → fault (rowAt segments xs j) ≡ false
+unfolding some rowsFrom
+clean-at fault xs zero i h j p q = absurd (omega arith)
+clean-at fault xs (suc k) i h j p q =
+    let n = neither (fault (rowAt segments xs i)) (some fault (rowsFrom segments xs (suc i) k)) h in
+    ⊎-elim (λ (e : j ≡ i). rw e (n .0)) (λ e. clean-at fault xs k (suc i) (n .1) j (omega arith) (omega arith)) (same-or j i)
+
+pub each-on-grid : (xs : List ℤ) (n : ℕ) → some isOff (rowsFrom segments xs 0 n) ≡ false → (i : ℕ) → i < n → GridSegment (rowAt segments xs i)
+each-on-grid xs n e i h =
+    let v = rowAt segments xs i in
+    when-true (gridSegment? v) (not-false (gridSegment v) (clean-at isOff xs n 0 e i (omega arith) (omega arith)))

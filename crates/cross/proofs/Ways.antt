@@ -1,7 +1,7 @@
 -- The three ways of the middle point. On an upright target one offset is zero and the other fraction is reduced by target's height; on a level one by its
 -- width; elsewhere both are shares to nearest.
-use mathlib.Core.Path.{_≡_, refl, ap, ap₂, _∙_}
-use mathlib.Core.Bool.{Bool, true, false, _||_}
+use mathlib.Core.Path.{_≡_, ap, ap₂, _∙_}
+use mathlib.Core.Bool.{true, false, _||_}
 use mathlib.Core.List.{[], _∷_}
 use mathlib.Core.Logic.{_≢_}
 use Prim.Native.Nat.{suc}
@@ -10,6 +10,7 @@ use lib.IntN.{ℤ, pos, negsuc, _+ℤ_, _-ℤ_, _*ℤ_, *ℤ-comm}
 use lib.Signed.{quotZ}
 use Rattle.whole.specs.Order.{zz, add-is}
 use Rattle.whole.specs.Ring.{ring, reads}
+use Rattle.whole.specs.Test.{or-true}
 use Rattle.geom.specs.declared.Segment.{Segment}
 use Rattle.geom.specs.Plane.{GridSegment, point, upright}
 use Rattle.geom.specs.Tests.{Decides, holds, fails, same?, upright?}
@@ -53,11 +54,7 @@ unfolding level
 level? t = same? (t .a .y .0) (t .b .y .0)
 
 is-level : (t : Segment) → t .a .y .0 ≡ t .b .y .0 → (upright t || level t) ≡ true
-is-level t e = rw (holds (level? t) e) (either (upright t))
-  where
-    either : (b : Bool) → (b || true) ≡ true
-    either true = refl
-    either false = refl
+is-level t e = rw (holds (level? t) e) (or-true (upright t))
 
 -- ---- the point
 

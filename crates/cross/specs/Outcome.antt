@@ -11,7 +11,7 @@ use lib.IntN.{ℤ, pos, natAbs, _-ℤ_}
 use borrow.Author.Tests.{eqb-true, eqb-false, leb-false, ltb-false}
 use Rattle.whole.specs.Order.{zz, sub-is, split}
 use Rattle.whole.specs.Sign.{abs-is}
-use Rattle.whole.specs.Test.{and-l, and-r}
+use Rattle.whole.specs.Test.{and-l, and-r, neither}
 use Rattle.geom.specs.declared.Point.{Point}
 use Rattle.geom.specs.declared.Segment.{Segment}
 use Rattle.geom.specs.Plane.{GridPoint, GridSegment, signOf, sideOf, against}
@@ -75,10 +75,6 @@ beyond v p radius e =
   where
     off : (q : Point) → p ≡ q → radius < far q p → ⊥
     off q h l = let z : far q p ≡ 0 = ap (λ t. far q t) h ∙ far-none q in omega arith
-
-neither : (a b : Bool) → (a || b) ≡ false → (a ≡ false) × (b ≡ false)
-neither true b e = let z : _≡_ {A = ℕ} 0 1 = cc in absurd (omega arith)
-neither false b e = (refl, e)
 
 module _ (radius : ℕ) {t o : Segment} (m : Middle t o) where
   t-off : NoZero (o₁ o t) (o₂ o t)

@@ -51,9 +51,9 @@ crossSaid radius t o =
     cond (gridSegment t && gridSegment o) (cond (hasLength t && hasLength o) r (only 4)) (only 3)
 
 -- the answer, and its numbers
-pub both-said : (radius : ℕ) (t o : Segment) (r : Crossing) → r ≡ crossAny radius t o → (r ≡ crossAny radius t o) × (crossSays t o r ≡ crossSaid radius t o)
+pub also-said : (radius : ℕ) (t o : Segment) (r : Crossing) → r ≡ crossAny radius t o → (r ≡ crossAny radius t o) × (crossSays t o r ≡ crossSaid radius t o)
 unfolding crossAny crossSaid
-both-said radius t o r e =
+also-said radius t o r e =
     (e, ap (λ (s : Crossing). crossSays t o s) e ∙ by-tests (gridSegment t && gridSegment o) (hasLength t && hasLength o) (crossing radius t o))
   where
     by-tests : (g l : Bool) (c : Crossing) → crossSays t o (cond g (cond l c NoLength) OffGrid) ≡ cond g (cond l (crossSays t o c) (only 4)) (only 3)

@@ -1,7 +1,7 @@
 -- What the sides say: on a line where the side is 1; nothing where both ends of other lie on one side of target's line; a middle crossing where no end
 -- lies on the other's line and the sides of each couple differ.
 use mathlib.Core.Path.{_≡_, refl, sym, subst}
-use mathlib.Core.Bool.{Bool, true, false, cond, _||_}
+use mathlib.Core.Bool.{false, cond}
 use mathlib.Core.Logic.{_≢_, inl, inr}
 use Prim.Native.Nat.{ℕ, _+_, _%_, _≤_}
 use native.Mathlib.Omega.{arith}
@@ -10,6 +10,7 @@ use lib.IntN.{ℤ, natAbs}
 use borrow.Author.Tests.{eq-eqb, ne-eqb, le-ltb}
 use Rattle.whole.specs.Order.{zz, split}
 use Rattle.whole.specs.Sign.{abs-is}
+use Rattle.whole.specs.Test.{or-true}
 use Rattle.geom.specs.declared.Point.{Point}
 use Rattle.geom.specs.declared.Segment.{Segment}
 use Rattle.geom.specs.Plane.{signOf, sideOf, against}
@@ -50,15 +51,11 @@ by-ends radius t o s1 s2 s3 s4 n l h k =
 
 -- ---- both ends of other on one side
 
-or-true : (b c : Bool) → (b || (true || c)) ≡ true
-or-true true c = refl
-or-true false c = refl
-
 pub one-side : (radius : ℕ) (t o : Segment) (s1 s2 s3 s4 : ℕ) → s1 ≡ s2 → s1 % 2 ≡ 0 → crossBy radius t o s1 s2 s3 s4 ≡ Nothing
 unfolding crossBy
 one-side radius t o s1 s2 s3 s4 h k =
     let few : zero s1 + zero s2 + zero s3 + zero s4 ≢ 4 = λ e. omega arith in
-    rw (ne-eqb (zero s1 + zero s2 + zero s3 + zero s4) 4 few, eq-eqb s1 s2 h, or-true (ltb 1 (zero s1 + zero s2 + zero s3 + zero s4)) (eqb s3 s4))
+    rw (ne-eqb (zero s1 + zero s2 + zero s3 + zero s4) 4 few, eq-eqb s1 s2 h, or-true (ltb 1 (zero s1 + zero s2 + zero s3 + zero s4)))
 
 -- ---- no end on the other's line, and the sides of each couple differ
 

@@ -2,9 +2,9 @@
 ghost use mathlib.Core.Path.{_≡_};
 ghost use mathlib.Core.Logic.{_≢_};
 ghost use Prim.Native.Nat.{_<_, _^_};
-ghost use lib.IntN.{natAbs, _+ℤ_, _*ℤ_};
+ghost use lib.IntN.{natAbs, _+ℤ_, _-ℤ_, _*ℤ_};
 ghost use lib.Signed.{quotZ};
-ghost use Rattle.geom.specs.Plane.{OnGrid, GridPoint, GridSegment};
+ghost use Rattle.geom.specs.Plane.{OnGrid, GridPoint, GridSegment, against};
 ghost use Rattle.cross.specs.Cross.{far as farOf, nearest, crossPoint};
 ghost use Rattle.cross.specs.Middle.{Middle, Cut, Share, signedAs, movedBy, endOf};
 use geom::Coord;
@@ -94,7 +94,22 @@ pub(crate) fn nearer(v: Segment, p: Point) -> End
     End { point, far: b }
 }
 
-// On an upright target n / d is reduced by its height: a word holds what is divided, and the quotient is cut.
+// c, moved by the cut quotient of p against other's line and the gap of f and g: a word holds both.
+fn reduced(c: Coord, other: Segment, p: Point, f: Coord, g: Coord) -> Coord
+    requires { ⌜ GridSegment other ⌝ }
+    requires { ⌜ GridPoint p ⌝ }
+    requires { ⌜ OnGrid (f .0) ⌝ }
+    requires { ⌜ OnGrid (g .0) ⌝ }
+    requires { ⌜ Cut (against other p) (f .0 -ℤ g .0) ⌝ }
+    requires { ⌜ OnGrid (c .0 +ℤ quotZ (against other p) (f .0 -ℤ g .0)) ⌝ }
+    ensures { λ r. ⌜ r ≡ movedBy c (quotZ (against other p) (f .0 -ℤ g .0)) ⌝ }
+{
+    let n = turns::turn(other.a, other.b, p);
+    let d = turns::gap(f, g);
+    moved(c, cut(n, d))
+}
+
+// On an upright target n / d is reduced by its height.
 fn on_upright(target: Segment, other: Segment) -> Point
     requires { ⌜ GridSegment target ⌝ }
     requires { ⌜ GridSegment other ⌝ }
@@ -102,10 +117,8 @@ fn on_upright(target: Segment, other: Segment) -> Point
     requires { ⌜ target .a .x .0 ≡ target .b .x .0 ⌝ }
     ensures { λ r. ⌜ r ≡ crossPoint target other ⌝ }
 {
-    let n = turns::turn(other.a, other.b, target.a);
-    let d = turns::gap(other.a.x, other.b.x);
     let x = target.a.x;
-    let y = moved(target.a.y, cut(n, d));
+    let y = reduced(target.a.y, other, target.a, other.a.x, other.b.x);
     Point { x, y }
 }
 
@@ -117,10 +130,8 @@ fn on_level(target: Segment, other: Segment) -> Point
     requires { ⌜ target .a .y .0 ≡ target .b .y .0 ⌝ }
     ensures { λ r. ⌜ r ≡ crossPoint target other ⌝ }
 {
-    let n = turns::turn(other.a, other.b, target.a);
-    let d = turns::gap(other.b.y, other.a.y);
     let y = target.a.y;
-    let x = moved(target.a.x, cut(n, d));
+    let x = reduced(target.a.x, other, target.a, other.b.y, other.a.y);
     Point { x, y }
 }
 

@@ -1,12 +1,13 @@
 -- Document 01's words for points and segments: the grid ("Input and answer", refusal 3), the order of points and what it is to turn a
 -- segment ("The run"), upright ("Masks"), and the turn of three points, whose sign is the orientation of "Crossing".
 use mathlib.Core.Path.{_≡_}
-use mathlib.Core.Bool.{Bool, true, false, cond, _&&_}
+use mathlib.Core.Bool.{Bool, true, false, cond}
 use Prim.Native.Nat.{ℕ, _<_, _^_}
 use lib.IntN.{ℤ, pos, negℤ, _-ℤ_, _*ℤ_}
-use lib.Signed.{mag, ltZ, leZ, _<ℤ_}
+use lib.Signed.{mag, ltZ, _<ℤ_}
 use mir.Syntax.{w32}
 use mir.Val.{SFits}
+pub use Rattle.whole.specs.Test.{eqZ as sameZ}
 use Rattle.geom.specs.declared.Count.{Count}
 use Rattle.geom.specs.declared.Point.{Point}
 use Rattle.geom.specs.declared.Segment.{Segment}
@@ -63,9 +64,6 @@ before p q = cond (ltZ (p .x .0) (q .x .0)) true (cond (ltZ (q .x .0) (p .x .0))
 -- q lies strictly between p and r
 unfoldable pub between : Point → Point → Point → Bool
 between p q r = cond (before p q) (before q r) false
-
-abbrev pub sameZ : ℤ → ℤ → Bool
-sameZ a b = leZ a b && leZ b a
 
 unfoldable pub samePoint : Point → Point → Bool
 samePoint p q = cond (sameZ (p .x .0) (q .x .0)) (sameZ (p .y .0) (q .y .0)) false

@@ -15,13 +15,14 @@ use Rattle.whole.specs.Fit.{fits-abs}
 use Rattle.whole.specs.Kind.{rowAt, putRow, rowsFrom, front, flat}
 use Rattle.whole.specs.KindLaws.{rows-step, rows-done}
 use Rattle.whole.specs.PassLaws.{Going, going-start, going-skip, going-put, done, done-put}
+use Rattle.whole.specs.Test.{neither}
 use Rattle.geom.specs.declared.Segment.{Segment}
 use Rattle.geom.specs.Rows.{segments}
 use Rattle.segm.specs.declared.Group.{Group}
 use Rattle.segm.specs.declared.Merged.{Merged}
 use Rattle.segm.specs.declared.Merged.the-variants.{Joined, Same, TooBig}
 use Rattle.segm.specs.Merge.{sameEnds, groups, merged, paired, isFar, tooBig, answerOf, listOf}
-use Rattle.segm.specs.MergeLaws.{neither, not-far}
+use Rattle.segm.specs.MergeLaws.{not-far}
 use Rattle.segm.specs.Group.{joint, alone, withOne, farGroup, isDropped, left}
 use Rattle.segm.proofs.Still.{merging, farOn, pairedOn, far-end, far-same, far-next, far-here, paired-end, paired-same, paired-next, pass-merged}
 

@@ -8,7 +8,7 @@ use Rattle.whole.specs.Sum.{keep, keep-yes, keep-no}
 use Rattle.geom.specs.declared.Segment.{Segment}
 use Rattle.segm.specs.declared.Group.{Group}
 use Rattle.segm.specs.Merge.{sameEnds, plus, groupsFrom, isEmpty, mergedFrom, pairedFrom, anyFar}
-use Rattle.segm.specs.MergeLaws.{or-true, or-false}
+use Rattle.whole.specs.Test.{or-true, or-false}
 use Rattle.segm.specs.Group.{joint, alone, withOne, farGroup, isDropped, left}
 
 abbrev pub merging : Pass Segment Group

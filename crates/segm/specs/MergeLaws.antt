@@ -2,7 +2,7 @@
 -- (`merged-ends`), it is no longer (`merged-length`), its counts are within ±(2^31 - 1) unless 9 is answered (`merged-near`), and of a list that stands by
 -- its ends no two are left with the same ends (`merged-strict`).
 use mathlib.Core.Path.{_≡_, refl, ap, _∙_}
-use mathlib.Core.Bool.{Bool, true, false, not, cond, _||_}
+use mathlib.Core.Bool.{Bool, true, false, not, cond}
 use mathlib.Core.List.{List, [], _∷_}
 use mathlib.Core.Logic.{inl, inr}
 use Prim.Native.Nat.{ℕ, suc, _*_, _≤_, _<_}
@@ -14,6 +14,7 @@ use lib.Dec.{ltb}
 use borrow.Author.Tests.{lt-ltb, le-ltb}
 use Rattle.whole.specs.Order.{split, lt-false}
 use Rattle.whole.specs.Sign.{abs-is}
+use Rattle.whole.specs.Test.{neither, or-true}
 use Rattle.whole.specs.Sum.{All, none, also, all-map, Pairs, no-pair, pair, keep, keep-yes, keep-no, all-keep, pairs-keep}
 use Rattle.geom.specs.declared.Point.{Point}
 use Rattle.geom.specs.declared.Segment.{Segment}
@@ -31,18 +32,6 @@ use Rattle.segm.specs.Order.{EndsBefore, by-a, by-b, SameEnds, EndsUpto,
 pub sameEnds? : (u v : Segment) → Decides (SameEnds u v) (sameEnds u v)
 unfolding sameEnds
 sameEnds? u v = and (samePoint? (u .a) (v .a)) (samePoint? (u .b) (v .b))
-
-pub or-true : (b : Bool) → b || true ≡ true
-or-true true = refl
-or-true false = refl
-
-pub or-false : (b : Bool) → b || false ≡ b
-or-false true = refl
-or-false false = refl
-
-pub neither : (a b : Bool) → a || b ≡ false → (a ≡ false) × (b ≡ false)
-neither true b e = let z : _≡_ {A = ℕ} 0 1 = cc in absurd (omega arith)
-neither false b e = (refl, e)
 
 -- ---- the answers
 

@@ -5,6 +5,7 @@ use mathlib.Core.List.{List, [], _∷_, _++_}
 use mathlib.Core.Logic.{_↔_}
 use Prim.Native.Nat.{ℕ}
 use native.Mathlib.Omega.{arith}
+use Rattle.whole.specs.Test.{or-false}
 use Rattle.geom.specs.declared.Point.{Point}
 use Rattle.geom.specs.declared.Segment.{Segment}
 use Rattle.geom.specs.Plane.{Before, between}
@@ -45,10 +46,6 @@ inner-forward : (v : Segment) (p : Point) → Before (v .a) (v .b) → inner v p
 unfolding inner
 inner-forward v p h =
     rw (fails (between? (v .b) p (v .a)) (λ k. before-irr (before-trans h (before-trans (k .0) (k .1))))) (or-false (between (v .a) p (v .b)))
-  where
-    or-false : (b : Bool) → (b || false) ≡ b
-    or-false true = refl
-    or-false false = refl
 
 -- target's two tests after other's, and before them
 around : (x c d : Bool) → ((x || c) || d) ≡ ((c || d) || x)

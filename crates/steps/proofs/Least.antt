@@ -1,8 +1,8 @@
 -- Where no row has a count of -2^31, each count can be negated.
 use mathlib.Core.Path.{_≡_, ap, _∙_}
-use mathlib.Core.Bool.{Bool, false}
+use mathlib.Core.Bool.{false}
 use mathlib.Core.Logic.{⊎-elim}
-use Prim.Native.Nat.{ℕ, zero, suc, _+_, _≤_, _<_}
+use Prim.Native.Nat.{ℕ, _<_}
 use mathlib.Core.List.{List}
 use native.Mathlib.Omega.{arith}
 use lib.IntN.{ℤ, negsuc, negℤ}
@@ -11,22 +11,15 @@ use mir.Syntax.{w32}
 use mir.Val.{SFits}
 use Rattle.whole.specs.Order.{zz, mag-in, neg-is, sfits-out}
 use Rattle.whole.specs.Sign.{lt-or-le}
-use Rattle.whole.specs.Total.{same-or}
 use Rattle.whole.specs.Kind.{rowAt, rowsFrom}
 use Rattle.geom.specs.declared.Count.{Count}
 use Rattle.geom.specs.declared.Segment.{Segment}
 use Rattle.geom.specs.Plane.{sameZ, Countable}
 use Rattle.geom.specs.Tests.{when-false, same?}
 use Rattle.geom.specs.Rows.{segments}
-use Rattle.segm.specs.MergeLaws.{neither}
+use Rattle.whole.specs.Test.{neither}
 use Rattle.checks.specs.Checks.{some, hasLeast}
-
-clean-at : (fault : Segment → Bool) (xs : List ℤ) (k i : ℕ) → some fault (rowsFrom segments xs i k) ≡ false → (j : ℕ) → i ≤ j → j < i + k → fault (rowAt segments xs j) ≡ false
-unfolding some rowsFrom
-clean-at fault xs zero i h j p q = absurd (omega arith)
-clean-at fault xs (suc k) i h j p q =
-    let n = neither (fault (rowAt segments xs i)) (some fault (rowsFrom segments xs (suc i) k)) h in
-    ⊎-elim (λ (e : j ≡ i). rw e (n .0)) (λ e. clean-at fault xs k (suc i) (n .1) j (omega arith) (omega arith)) (same-or j i)
+use Rattle.checks.proofs.Some.{clean-at}
 
 negates : (c : Count) → SFits w32 (c .0) → sameZ (c .0) (negsuc 2147483647) ≡ false → Countable c
 negates c f h =

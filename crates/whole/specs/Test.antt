@@ -2,7 +2,7 @@
 -- the outcome of every comparison that is known into the goal. `lt-of`, `le-of`, `lt-not`, `le-not-of` go back, from an outcome to a fact of ℤ.
 -- (Module Order has laws of the same names from an outcome to a fact of the halves, for `omega zc`.)
 use mathlib.Core.Path.{_≡_, refl, sym, _∙_, subst}
-use mathlib.Core.Bool.{Bool, true, false, not, _&&_}
+use mathlib.Core.Bool.{Bool, true, false, not, _&&_, _||_}
 use mathlib.Core.Logic.{⊎-elim}
 use lib.Dec.{T}
 use lib.IntN.{ℤ, +ℤ-idl, +ℤ-idr}
@@ -30,6 +30,22 @@ and-l false b e = e
 pub and-r : (a b : Bool) → a && b ≡ true → b ≡ true
 and-r true b e = e
 and-r false b e = absurd (of-true e)
+
+pub neither : (a b : Bool) → (a || b) ≡ false → (a ≡ false) × (b ≡ false)
+neither true b e = absurd (of-true (sym e))
+neither false b e = (refl, e)
+
+pub or-true : (b : Bool) → (b || true) ≡ true
+or-true true = refl
+or-true false = refl
+
+pub or-false : (b : Bool) → (b || false) ≡ b
+or-false true = refl
+or-false false = refl
+
+pub not-false : (b : Bool) → not b ≡ false → b ≡ true
+not-false true e = refl
+not-false false e = absurd (of-true (sym e))
 
 -- two second tests that agree where the first holds
 pub and-same : (c : Bool) {t s : Bool} → (c ≡ true → t ≡ s) → (c && t) ≡ (c && s)

@@ -5,7 +5,7 @@ use Rattle.whole.specs.Test.{and-l, and-r}
 use Rattle.geom.specs.Plane.{gridSegment}
 use Rattle.geom.specs.Tests.{when-true, gridSegment?}
 use Rattle.cross.specs.Cross.{crossAny}
-use Rattle.cross.specs.Said.{both-said}
+use Rattle.cross.specs.Said.{also-said}
 use Rattle.cross.proofs.cross.Statement.{statement}
 use Rattle.cross.proofs.cross.Tie as tie
 
@@ -27,17 +27,17 @@ returns : tie.Need-returns
 unfolding crossAny
 returns c =
     let h = c .before .before in
-    both-said _ _ _ _ (rw (← h .before .before .both-on-grid .ensures, h .before .if1 .taken, ← h .both-have-length .ensures, c .before .if2 .taken) (c .crossing .ensures))
+    also-said _ _ _ _ (rw (← h .before .before .both-on-grid .ensures, h .before .if1 .taken, ← h .both-have-length .ensures, c .before .if2 .taken) (c .crossing .ensures))
 
 returns-2 : tie.Need-returns-2
 unfolding crossAny
 returns-2 c =
     let h = c .before in
-    both-said _ _ _ _ (rw (← h .before .before .both-on-grid .ensures, h .before .if1 .taken, ← h .both-have-length .ensures, c .if2 .left))
+    also-said _ _ _ _ (rw (← h .before .before .both-on-grid .ensures, h .before .if1 .taken, ← h .both-have-length .ensures, c .if2 .left))
 
 returns-3 : tie.Need-returns-3
 unfolding crossAny
-returns-3 c = both-said _ _ _ _ (rw (← c .before .both-on-grid .ensures, c .if1 .left))
+returns-3 c = also-said _ _ _ _ (rw (← c .before .both-on-grid .ensures, c .if1 .left))
 
 pub cross-spec : {M : Type 1} → statement M
 cross-spec =

@@ -13,7 +13,7 @@ use Rattle.whole.specs.Kind.{rowsFrom}
 use Rattle.geom.specs.Rows.{segments}
 use Rattle.split.specs.Marks.{marks as markRows}
 use Rattle.split.specs.Look.{look}
-use Rattle.split.proofs.Faulty.{each-on-grid}
+use Rattle.checks.proofs.Some.{each-on-grid}
 use Rattle.split.proofs.Looking.{withOthers, fromTarget, others-done, target-step, targets-done, pair-step, Left, room-fits, answer-full, answer-marks}
 use Rattle.split.proofs.look.pairs.Statement.{statement}
 use Rattle.split.proofs.look.pairs.Tie as tie
