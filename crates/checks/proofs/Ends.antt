@@ -14,7 +14,7 @@ use Rattle.geom.specs.Tests.{Decides, yes, no, holds, fails, same?}
 use Rattle.segm.specs.Balance.{starting, ending, balancedAt, balancedOver, closed}
 use Rattle.checks.specs.declared.Net.{Net}
 use Rattle.checks.specs.Checks.{some, isOpen}
-use Rattle.checks.specs.Net.{plusCounts, lessCounts, startedAt, endedAt, netFrom, nothing, netAt, isUneven, hasOpenEnd}
+use Rattle.checks.specs.Net.{changedBy, countedAt, netFrom, nothing, netAt, isUneven, hasOpenEnd}
 
 -- the net count of a side
 abbrev part : Side → Net → ℤ
@@ -23,17 +23,17 @@ part clip net = net .clip
 
 -- ---- one segment more
 
-plus-part : (s : Side) (net : Net) (v : Segment) (t : Bool) → part s (cond t (plusCounts net v) net) ≡ part s net +ℤ count s v *ℤ ind t
-plus-part subject net v true = ring (net .subject ∷ v .subject .0 ∷ []) (search reads depth 20 fits 5000) tt
-plus-part subject net v false = ring (net .subject ∷ v .subject .0 ∷ []) (search reads depth 20 fits 5000) tt
-plus-part clip net v true = ring (net .clip ∷ v .clip .0 ∷ []) (search reads depth 20 fits 5000) tt
-plus-part clip net v false = ring (net .clip ∷ v .clip .0 ∷ []) (search reads depth 20 fits 5000) tt
+changed-is : (s e : Bool) (c z : ℤ) → changedBy s e c z ≡ (z +ℤ c *ℤ ind s) -ℤ c *ℤ ind e
+unfolding changedBy
+changed-is true true c z = ring (z ∷ c ∷ []) (search reads depth 20 fits 5000) tt
+changed-is true false c z = ring (z ∷ c ∷ []) (search reads depth 20 fits 5000) tt
+changed-is false true c z = ring (z ∷ c ∷ []) (search reads depth 20 fits 5000) tt
+changed-is false false c z = ring (z ∷ c ∷ []) (search reads depth 20 fits 5000) tt
 
-less-part : (s : Side) (net : Net) (v : Segment) (t : Bool) → part s (cond t (lessCounts net v) net) ≡ part s net -ℤ count s v *ℤ ind t
-less-part subject net v true = ring (net .subject ∷ v .subject .0 ∷ []) (search reads depth 20 fits 5000) tt
-less-part subject net v false = ring (net .subject ∷ v .subject .0 ∷ []) (search reads depth 20 fits 5000) tt
-less-part clip net v true = ring (net .clip ∷ v .clip .0 ∷ []) (search reads depth 20 fits 5000) tt
-less-part clip net v false = ring (net .clip ∷ v .clip .0 ∷ []) (search reads depth 20 fits 5000) tt
+part-is : (s : Side) (p : Point) (net : Net) (v : Segment) → part s (countedAt p net v) ≡ (part s net +ℤ count s v *ℤ ind (samePoint p (v .a))) -ℤ count s v *ℤ ind (samePoint p (v .b))
+unfolding countedAt
+part-is subject p net v = changed-is (samePoint p (v .a)) (samePoint p (v .b)) (v .subject .0) (net .subject)
+part-is clip p net v = changed-is (samePoint p (v .a)) (samePoint p (v .b)) (v .clip .0) (net .clip)
 
 -- ---- all of them
 
@@ -44,15 +44,12 @@ none-more : (n : ℤ) → n ≡ n +ℤ (pos 0 -ℤ pos 0)
 none-more n = ring (n ∷ []) (search reads depth 20 fits 5000) tt
 
 net-is : (s : Side) (p : Point) (net : Net) (L : List Segment) → part s (netFrom p net L) ≡ part s net +ℤ (starting (count s) p L -ℤ ending (count s) p L)
-unfolding netFrom startedAt endedAt Over Sum
+unfolding netFrom Over Sum
 net-is s p net [] = none-more (part s net)
 net-is s p net (v ∷ L) =
-    let a = samePoint p (v .a) in
-    let b = samePoint p (v .b) in
-    let more = cond a (plusCounts net v) net in
-    net-is s p (cond b (lessCounts more v) more) L
-    ∙ ap (λ z. z +ℤ (starting (count s) p L -ℤ ending (count s) p L)) (less-part s more v b ∙ ap (λ z. z -ℤ count s v *ℤ ind b) (plus-part s net v a))
-    ∙ regroup (part s net) (count s v *ℤ ind a) (count s v *ℤ ind b) (starting (count s) p L) (ending (count s) p L)
+    net-is s p (countedAt p net v) L
+    ∙ ap (λ z. z +ℤ (starting (count s) p L -ℤ ending (count s) p L)) (part-is s p net v)
+    ∙ regroup (part s net) (count s v *ℤ ind (samePoint p (v .a))) (count s v *ℤ ind (samePoint p (v .b))) (starting (count s) p L) (ending (count s) p L)
 
 -- ---- the test
 

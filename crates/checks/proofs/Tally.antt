@@ -11,13 +11,13 @@ use Rattle.geom.specs.declared.Point.{Point}
 use Rattle.geom.specs.declared.Segment.{Segment}
 use Rattle.geom.specs.Rows.{segments}
 use Rattle.checks.specs.declared.Net.{Net}
-use Rattle.checks.specs.Net.{startedAt, endedAt, netFrom, nothing, netAt}
+use Rattle.checks.specs.Net.{countedAt, netFrom, nothing, netAt}
 
--- two counts of a row at most are in each sum
+-- one count of a row at most is in each sum
 pub record Tally (p : Point) (xs : List ℤ) (n i : ℕ) (net : Net) : Type 0 where
   pub rest : netFrom p net (rowsFrom segments xs i (n - i)) ≡ netAt p (rowsFrom segments xs 0 n)
-  pub subject : natAbs (net .subject) ≤ i * 4294967296
-  pub clip : natAbs (net .clip) ≤ i * 4294967296
+  pub subject : natAbs (net .subject) ≤ i * 2147483648
+  pub clip : natAbs (net .clip) ≤ i * 2147483648
 
 -- a sum is at most one count further from 0
 abbrev Nearby : Net → Net → Type 0
@@ -27,16 +27,14 @@ pub tally-start : (p : Point) (xs : List ℤ) (n : ℕ) → Tally p xs n 0 nothi
 tally-start p xs n = record { rest = rw (sub-zero n); subject = omega arith; clip = omega arith }
 
 module _ {p : Point} {xs : List ℤ} {n i : ℕ} {net : Net} (k : Tally p xs n i net) where
-  pub tally-next : i < n → {v : Segment} {m r : Net} → v ≡ rowAt segments xs i → (m ≡ startedAt p net v) × Nearby net m → (r ≡ endedAt p m v) × Nearby m r
-      → Tally p xs n (i + 1) r
+  pub tally-next : i < n → {v : Segment} {r : Net} → v ≡ rowAt segments xs i → (r ≡ countedAt p net v) × Nearby net r → Tally p xs n (i + 1) r
   unfolding netFrom
-  tally-next h {v} {m} {r} e s d =
+  tally-next h {v} {r} e s =
       let b = s .1 in
-      let f = d .1 in
       record {
-        rest = rw (d .0, s .0, e) (sym (ap (netFrom p net) (rows-step segments xs n i h)) ∙ k .rest);
-        subject = omega (arith, k .subject, b .0, f .0);
-        clip = omega (arith, k .clip, b .1, f .1);
+        rest = rw (s .0, e) (sym (ap (netFrom p net) (rows-step segments xs n i h)) ∙ k .rest);
+        subject = omega (arith, k .subject, b .0);
+        clip = omega (arith, k .clip, b .1);
       }
 
   pub tally-end : n ≤ i → net ≡ netAt p (rowsFrom segments xs 0 n)

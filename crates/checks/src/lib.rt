@@ -8,7 +8,7 @@ ghost use Rattle.geom.specs.Plane.{sameZ};
 ghost use Rattle.geom.specs.Limits.{workRoom};
 ghost use Rattle.geom.specs.Rows.{segments};
 ghost use Rattle.checks.specs.Checks.{isShort, isBad, some, hasLeast, fault, isOpen, faultOf, checkSays, checkSaid};
-ghost use Rattle.checks.specs.Net.{startedAt, endedAt, netAt, isUneven, hasOpenEnd};
+ghost use Rattle.checks.specs.Net.{changedBy, countedAt, netAt, isUneven, hasOpenEnd};
 use geom::Count;
 use geom::Point;
 use geom::Segment;
@@ -197,39 +197,40 @@ fn net_at(rows: &[i32], n: usize, p: Point) -> Net
     };
     for j in 0..n {
         let v = geom::read(rows, j);
-        net = ended(started(net, v, p), v, p);
+        net = counted(net, v, p);
     }
     net
 }
 
-// The counts of v are added where it starts at p.
-fn started(net: Net, v: Segment, p: Point) -> Net
+// The counts of v are added where it starts at p, and taken away where it ends there.
+fn counted(net: Net, v: Segment, p: Point) -> Net
     requires { ⌜ natAbs (net .subject) ≤ 4096 * 2147483648 ⌝ }
     requires { ⌜ natAbs (net .clip) ≤ 4096 * 2147483648 ⌝ }
-    ensures { λ r. ⌜ r ≡ startedAt p net v ⌝ }
+    ensures { λ r. ⌜ r ≡ countedAt p net v ⌝ }
     ensures { λ r. ⌜ (natAbs (r .subject) ≤ natAbs (net .subject) + 2147483648) × (natAbs (r .clip) ≤ natAbs (net .clip) + 2147483648) ⌝ }
 {
-    if order::same_point(p, v.a) {
-        let subject = segm::total(net.subject, v.subject);
-        let clip = segm::total(net.clip, v.clip);
-        return Net { subject, clip };
-    }
-    net
+    let starts = order::same_point(p, v.a);
+    let ends = order::same_point(p, v.b);
+    let subject = changed(net.subject, v.subject, starts, ends);
+    let clip = changed(net.clip, v.clip, starts, ends);
+    Net { subject, clip }
 }
 
-// The counts of v are taken away where it ends at p.
-fn ended(net: Net, v: Segment, p: Point) -> Net
-    requires { ⌜ natAbs (net .subject) ≤ 4096 * 2147483648 ⌝ }
-    requires { ⌜ natAbs (net .clip) ≤ 4096 * 2147483648 ⌝ }
-    ensures { λ r. ⌜ r ≡ endedAt p net v ⌝ }
-    ensures { λ r. ⌜ (natAbs (r .subject) ≤ natAbs (net .subject) + 2147483648) × (natAbs (r .clip) ≤ natAbs (net .clip) + 2147483648) ⌝ }
+fn changed(sum: i64, c: Count, starts: bool, ends: bool) -> i64
+    requires { ⌜ natAbs sum ≤ 4096 * 2147483648 ⌝ }
+    ensures { λ r. ⌜ r ≡ changedBy starts ends (c .0) sum ⌝ }
+    ensures { λ r. ⌜ natAbs r ≤ natAbs sum + 2147483648 ⌝ }
 {
-    if order::same_point(p, v.b) {
-        let subject = less(net.subject, v.subject);
-        let clip = less(net.clip, v.clip);
-        return Net { subject, clip };
+    if starts {
+        if ends {
+            return sum;
+        }
+        return segm::total(sum, c);
     }
-    net
+    if ends {
+        return less(sum, c);
+    }
+    sum
 }
 
 // A count less.

@@ -17,8 +17,8 @@ use Rattle.geom.specs.Plane.{point, segment, onGrid, gridPoint, gridSegment, be
 use Rattle.segm.specs.Forward.{forward}
 use Rattle.segm.specs.Merge.{sameEnds, plus, groupsFrom, groups, isEmpty, mergedFrom, merged, pairedFrom, paired, isFar, anyFar}
 use Rattle.segm.specs.Balance.{balancedAt, balancedOver, closed}
-use Rattle.cross.specs.declared.answer.Kind.the-variants.{Pure, TargetEnd}
-use Rattle.cross.specs.Cross.{found, inner, collinearMask, level, nearest, quotient, crossPoint, onBoth, far, nearer, reach, snapped, middle, crossBy, crossing}
+use Rattle.cross.specs.Cross.{inner, collinearMask, level, nearest, quotient, crossPoint, onBoth, far, nearer, reach, snapped, middle, crossBy, crossing}
+use Rattle.cross.specs.Said.{Said, crossSaid}
 use Rattle.split.specs.Look.{one, lineMarks, kindMarks, crossMarks, marksWith, lookFrom, sameMark, tidy}
 use Rattle.split.specs.Chain.{pointsOf, addTo, columns, nextY, lastOf, chainFrom, chain, piecesFrom, splitFrom}
 use Rattle.rules.specs.Inside.{inside}
@@ -35,24 +35,23 @@ use Rattle.overlay.specs.Outcome.{Lent, Outcome, finished, swept, unless
 at : ℤ → ℤ → ℤ → ℤ → Segment
 at ax ay bx by = segment (point ax ay) (point bx by) (pos 1) (pos 0)
 
--- exact; rounded, and exchanged; an upright target cut toward zero, and exchanged; both ties
-crossings :
-    (crossing radius (at (pos 0) (pos 0) (pos 10) (pos 10)) (at (pos 0) (pos 10) (pos 10) (pos 0)) ≡ found (point (pos 5) (pos 5)) Pure false)
-    × (crossing radius (at (pos 0) (pos 0) (pos 9) (pos 9)) (at (pos 0) (pos 9) (pos 9) (pos 0)) ≡ found (point (pos 5) (pos 5)) Pure true)
-    × (crossing radius (at (pos 0) (pos 9) (pos 9) (pos 0)) (at (pos 0) (pos 0) (pos 9) (pos 9)) ≡ found (point (pos 5) (pos 4)) Pure true)
-    × (crossing radius (at (pos 0) (pos 0) (pos 0) (pos 10)) (at (negsuc 2) (pos 4) (pos 6) (pos 6)) ≡ found (point (pos 0) (pos 4)) Pure true)
-    × (crossing radius (at (negsuc 2) (pos 4) (pos 6) (pos 6)) (at (pos 0) (pos 0) (pos 0) (pos 10)) ≡ found (point (pos 0) (pos 5)) Pure true)
-    × (crossing radius (at (negsuc 0) (pos 0) (pos 1) (pos 0)) (at (pos 0) (negsuc 0) (pos 1) (pos 3)) ≡ found (point (pos 1) (pos 0)) TargetEnd true)
-unfolding at crossing crossBy crossPoint middle snapped reach nearer far onBoth quotient nearest level upright sideOf turn
-crossings = (refl, refl, refl, refl, refl, refl)
+-- answer 0 with this kind, point, rounding and mask
+crossed : ℕ → ℤ → ℤ → ℕ → ℕ → Said
+crossed kind x y rounded mask = record { answer = 0; kind = kind; x = x; y = y; rounded = rounded; mask = mask }
 
--- (0,0)-(4,0) with (2,0)-(6,0), (4,0)-(6,0), (0,0)-(2,0)
-collinears :
-    (collinearMask (at (pos 0) (pos 0) (pos 4) (pos 0)) (at (pos 2) (pos 0) (pos 6) (pos 0)) ≡ 6)
-    × (collinearMask (at (pos 0) (pos 0) (pos 4) (pos 0)) (at (pos 4) (pos 0) (pos 6) (pos 0)) ≡ 0)
-    × (collinearMask (at (pos 0) (pos 0) (pos 4) (pos 0)) (at (pos 0) (pos 0) (pos 2) (pos 0)) ≡ 8)
-unfolding at collinearMask inner between before
-collinears = (refl, refl, refl)
+-- exact; rounded, and exchanged; an upright target cut toward zero, and exchanged; both ties; on one line: mask 6, 0 and 8
+crossings :
+    (crossSaid radius (at (pos 0) (pos 0) (pos 10) (pos 10)) (at (pos 0) (pos 10) (pos 10) (pos 0)) ≡ crossed 1 (pos 5) (pos 5) 0 0)
+    × (crossSaid radius (at (pos 0) (pos 0) (pos 9) (pos 9)) (at (pos 0) (pos 9) (pos 9) (pos 0)) ≡ crossed 1 (pos 5) (pos 5) 1 0)
+    × (crossSaid radius (at (pos 0) (pos 9) (pos 9) (pos 0)) (at (pos 0) (pos 0) (pos 9) (pos 9)) ≡ crossed 1 (pos 5) (pos 4) 1 0)
+    × (crossSaid radius (at (pos 0) (pos 0) (pos 0) (pos 10)) (at (negsuc 2) (pos 4) (pos 6) (pos 6)) ≡ crossed 1 (pos 0) (pos 4) 1 0)
+    × (crossSaid radius (at (negsuc 2) (pos 4) (pos 6) (pos 6)) (at (pos 0) (pos 0) (pos 0) (pos 10)) ≡ crossed 1 (pos 0) (pos 5) 1 0)
+    × (crossSaid radius (at (negsuc 0) (pos 0) (pos 1) (pos 0)) (at (pos 0) (negsuc 0) (pos 1) (pos 3)) ≡ crossed 2 (pos 1) (pos 0) 1 0)
+    × (crossSaid radius (at (pos 0) (pos 0) (pos 4) (pos 0)) (at (pos 2) (pos 0) (pos 6) (pos 0)) ≡ crossed 4 (pos 0) (pos 0) 0 6)
+    × (crossSaid radius (at (pos 0) (pos 0) (pos 4) (pos 0)) (at (pos 4) (pos 0) (pos 6) (pos 0)) ≡ crossed 4 (pos 0) (pos 0) 0 0)
+    × (crossSaid radius (at (pos 0) (pos 0) (pos 4) (pos 0)) (at (pos 0) (pos 0) (pos 2) (pos 0)) ≡ crossed 4 (pos 0) (pos 0) 0 8)
+unfolding at crossed crossSaid gridSegment gridPoint onGrid samePoint crossing crossBy crossPoint middle snapped reach nearer far onBoth quotient nearest level upright sideOf turn collinearMask inner between before
+crossings = (refl, refl, refl, refl, refl, refl, refl, refl, refl)
 
 -- ---- merging
 

@@ -18,16 +18,10 @@ loop-holds c = tally-start (c .args .p) (c .args .rows .now) (c .args .n)
 read-requires : tie.Need-read-requires Inv-loop μ-loop
 read-requires c κs = omega (arith, c .before .before .pre .1)
 
-started-requires : tie.Need-started-requires Inv-loop μ-loop
-started-requires c κs =
+counted-requires : tie.Need-counted-requires Inv-loop μ-loop
+counted-requires c κs =
     let l = c .before .before in
     (omega (arith, l .loop .inv .subject, l .before .pre .0), omega (arith, l .loop .inv .clip, l .before .pre .0))
-
-ended-requires : tie.Need-ended-requires Inv-loop μ-loop
-ended-requires c κs =
-    let l = c .before .before .before in
-    let near = c .started .ensures .1 in
-    (omega (arith, l .loop .inv .subject, l .before .pre .0, near .0), omega (arith, l .loop .inv .clip, l .before .pre .0, near .1))
 
 add-j : tie.Need-add-j Inv-loop μ-loop
 add-j c = search needs
@@ -37,9 +31,8 @@ loop-less c = search needs
 
 loop-again : tie.Need-loop-again Inv-loop μ-loop
 loop-again c =
-    let s = c .before in
-    let t = s .before .before in
-    tally-next (t .before .loop .inv) (t .loop-test .taken) (s .before .read .ensures) (s .started .ensures) (c .ended .ensures)
+    let t = c .before .before in
+    tally-next (t .before .loop .inv) (t .loop-test .taken) (c .before .read .ensures) (c .counted .ensures)
 
 returns : tie.Need-returns Inv-loop μ-loop
 returns c = tally-end (c .before .loop .inv) (c .loop-test .left)
@@ -52,8 +45,7 @@ net-at-spec =
     μ-loop
     loop-holds
     read-requires
-    started-requires
-    ended-requires
+    counted-requires
     add-j
     loop-less
     loop-again
