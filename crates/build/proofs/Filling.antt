@@ -21,7 +21,7 @@ use Rattle.build.specs.declared.sweep.Filled.the-variants.{Done, Short, 
 use Rattle.scan.specs.Masks.{byteOf, bytes}
 use Rattle.scan.specs.Scan.{segmentAt, OnGrids}
 use Rattle.build.specs.Sweep.{Swept}
-use Rattle.build.specs.Fill.{isShort, isBad, isOff, isPoint, hasLeast, some, outcome, zeros, noMasks, swept, filled}
+use Rattle.build.specs.Fill.{isShort, isBad, isOff, isPoint, hasLeast, some, fillSays, zeros, noMasks, swept, fillSaid}
 
 -- ---- what a test that fails says
 
@@ -71,32 +71,32 @@ module _ (work : List ℤ) (n fill rule : ℕ) (scan : List ℤ) (masks : List �
   abbrev L : List Segment
   L = rowsFrom segments work 0 n
 
-  pub refused-1 : isShort n (length work) (length masks) ≡ true → outcome Short scan masks ≡ filled work n fill rule scan masks
-  unfolding filled
+  pub refused-1 : isShort n (length work) (length masks) ≡ true → fillSays Short scan masks ≡ fillSaid work n fill rule scan masks
+  unfolding fillSaid
   refused-1 e = rw e
 
   module _ (a : isShort n (length work) (length masks) ≡ false) where
-    pub refused-2 : isBad fill rule ≡ true → outcome BadRule scan masks ≡ filled work n fill rule scan masks
-    unfolding filled
+    pub refused-2 : isBad fill rule ≡ true → fillSays BadRule scan masks ≡ fillSaid work n fill rule scan masks
+    unfolding fillSaid
     refused-2 e = rw (a, e)
 
     module _ (b : isBad fill rule ≡ false) where
-      pub refused-3 : some isOff L ≡ true → outcome OffGrid scan masks ≡ filled work n fill rule scan masks
-      unfolding filled
+      pub refused-3 : some isOff L ≡ true → fillSays OffGrid scan masks ≡ fillSaid work n fill rule scan masks
+      unfolding fillSaid
       refused-3 e = rw (a, b, e)
 
       module _ (c : some isOff L ≡ false) where
-        pub refused-4 : some isPoint L ≡ true → outcome NoLength scan masks ≡ filled work n fill rule scan masks
-        unfolding filled
+        pub refused-4 : some isPoint L ≡ true → fillSays NoLength scan masks ≡ fillSaid work n fill rule scan masks
+        unfolding fillSaid
         refused-4 e = rw (a, b, c, e)
 
         module _ (d : some isPoint L ≡ false) where
-          pub refused-5 : some hasLeast L ≡ true → outcome BadCount scan masks ≡ filled work n fill rule scan masks
-          unfolding filled
+          pub refused-5 : some hasLeast L ≡ true → fillSays BadCount scan masks ≡ fillSaid work n fill rule scan masks
+          unfolding fillSaid
           refused-5 e = rw (a, b, c, d, e)
 
-          pub not-refused : some hasLeast L ≡ false → filled work n fill rule scan masks ≡ swept L fill rule scan masks
-          unfolding filled
+          pub not-refused : some hasLeast L ≡ false → fillSaid work n fill rule scan masks ≡ swept L fill rule scan masks
+          unfolding fillSaid
           not-refused e = rw (a, b, c, d, e)
 
 -- ---- what the sweep leaves
@@ -108,13 +108,13 @@ module _
     no-entry : xs ≡ zeros scan
     no-entry = x ∙ ap (λ (k : ℕ). replicate k (pos 0)) (s .scan-kept)
 
-    pub left-full : r ≡ true → {ms : List ℕ} → ms ≡ replicate (length ns) 0 → outcome ScanFull xs ms ≡ swept L fill rule scan masks
+    pub left-full : r ≡ true → {ms : List ℕ} → ms ≡ replicate (length ns) 0 → fillSays ScanFull xs ms ≡ swept L fill rule scan masks
     unfolding swept
     left-full e {ms} m =
         let k : length ns ≡ length masks = s .masks-kept ∙ ap length clear ∙ length-replicate {A = ℕ} (length masks) 0 in
-        rw (sym (s .answer) ∙ e) (ap₂ (outcome ScanFull) no-entry (m ∙ ap (λ (k : ℕ). replicate k 0) k))
+        rw (sym (s .answer) ∙ e) (ap₂ (fillSays ScanFull) no-entry (m ∙ ap (λ (k : ℕ). replicate k 0) k))
 
-    pub left-bytes : length L ≤ length masks → r ≡ false → outcome Done xs ns ≡ swept L fill rule scan masks
+    pub left-bytes : length L ≤ length masks → r ≡ false → fillSays Done xs ns ≡ swept L fill rule scan masks
     unfolding swept
     left-bytes h e =
         let B = bytes fill rule L in
@@ -122,4 +122,4 @@ module _
         let f : 0 + length B ≤ length (noMasks masks) = omega (arith, k, length-replicate {A = ℕ} (length masks) 0) in
         let n : 0 + length B ≡ length L = omega arith in
         rw (sym (s .answer) ∙ e)
-        (ap₂ (outcome Done) no-entry (s .bytes-are e ∙ ap (λ (l : List ℕ). sets l 0 B) clear ∙ sets-eq B (noMasks masks) 0 f ∙ ap (λ (m : ℕ). B ++ drop m (noMasks masks)) n))
+        (ap₂ (fillSays Done) no-entry (s .bytes-are e ∙ ap (λ (l : List ℕ). sets l 0 B) clear ∙ sets-eq B (noMasks masks) 0 f ∙ ap (λ (m : ℕ). B ++ drop m (noMasks masks)) n))

@@ -1,12 +1,12 @@
--- The sweep as a part of its own: those of refusals 1 to 11 that its lists can meet, in order ("Input and answer", "How tight the promises are"), and what
--- every lent list then holds.
-use mathlib.Core.Path.{_≡_, refl}
+-- The sweep as a part of its own, in document 01's numbers: those of refusals 1 to 11 that its lists can meet, in order ("Input and answer", "How tight the
+-- promises are"), and what every lent list then holds.
+use mathlib.Core.Path.{_≡_, refl, sym, ap, _∙_}
 use mathlib.Core.Bool.{Bool, true, false, not, cond, _||_}
 use mathlib.Core.List.{List, [], _∷_, _++_}
 use Prim.Native.Nat.{ℕ, _*_}
 use lib.Dec.{ltb, eqb}
 use lib.IntN.{ℤ, pos, negsuc}
-use lib.ListN.{length, drop, replicate}
+use lib.ListN.{length, getD, drop, replicate}
 use Rattle.whole.specs.Kind.{rowsFrom}
 use Rattle.geom.specs.declared.Segment.{Segment}
 use Rattle.geom.specs.Plane.{sameZ, samePoint, gridSegment}
@@ -15,16 +15,6 @@ use Rattle.geom.specs.Rows.{segments}
 use Rattle.build.specs.declared.sweep.Filled.{Filled}
 use Rattle.build.specs.declared.sweep.Filled.the-variants.{Done, Short, BadRule, OffGrid, NoLength, BadCount, ScanFull}
 use Rattle.scan.specs.Masks.{bytes, crowded}
-
--- document 01's number for each case
-abbrev pub numberOf : Filled → ℕ
-numberOf Done = 0
-numberOf Short = 1
-numberOf BadRule = 2
-numberOf OffGrid = 3
-numberOf NoLength = 4
-numberOf BadCount = 5
-numberOf ScanFull = 11
 
 -- ---- the refusals that change nothing
 
@@ -60,15 +50,29 @@ unfoldable pub some : (Segment → Bool) → List Segment → Bool
 some has [] = false
 some has (v ∷ L) = has v || some has L
 
--- ---- the outcome
+-- ---- what is said
 
-pub record Outcome : Type 0 where
-  pub answer : Filled
+-- the number of the table, and what the scan list and the masks then hold
+pub record Said : Type 0 where
+  pub answer : ℕ
   pub scan : List ℤ
   pub masks : List ℕ
 
-abbrev pub outcome : Filled → List ℤ → List ℕ → Outcome
-outcome a scan masks = record { answer = a; scan = scan; masks = masks }
+abbrev pub said : ℕ → List ℤ → List ℕ → Said
+said a scan masks = record { answer = a; scan = scan; masks = masks }
+
+-- the number of each case
+abbrev pub numberOf : Filled → ℕ
+numberOf Done = 0
+numberOf Short = 1
+numberOf BadRule = 2
+numberOf OffGrid = 3
+numberOf NoLength = 4
+numberOf BadCount = 5
+numberOf ScanFull = 11
+
+abbrev pub fillSays : Filled → List ℤ → List ℕ → Said
+fillSays r scan masks = said (numberOf r) scan masks
 
 abbrev pub zeros : List ℤ → List ℤ
 zeros xs = replicate (length xs) (pos 0)
@@ -77,36 +81,37 @@ abbrev pub noMasks : List ℕ → List ℕ
 noMasks ms = replicate (length ms) 0
 
 -- 11 leaves zeros; else the bytes and then zeros, and no entry
-unfoldable pub swept : List Segment → ℕ → ℕ → List ℤ → List ℕ → Outcome
+unfoldable pub swept : List Segment → ℕ → ℕ → List ℤ → List ℕ → Said
 swept L fill rule scan masks =
     cond (crowded (scanRoom (length scan)) L)
-    (outcome ScanFull (zeros scan) (noMasks masks))
-    (outcome Done (zeros scan) (bytes fill rule L ++ drop (length L) (noMasks masks)))
+    (said 11 (zeros scan) (noMasks masks))
+    (said 0 (zeros scan) (bytes fill rule L ++ drop (length L) (noMasks masks)))
 
-unfoldable pub filled : List ℤ → ℕ → ℕ → ℕ → List ℤ → List ℕ → Outcome
-filled work n fill rule scan masks =
+-- 1 to 5 in order change nothing
+unfoldable pub fillSaid : List ℤ → ℕ → ℕ → ℕ → List ℤ → List ℕ → Said
+fillSaid work n fill rule scan masks =
     let L = rowsFrom segments work 0 n in
     let r = swept L fill rule scan masks in
-    cond (isShort n (length work) (length masks)) (outcome Short scan masks)
-    (cond (isBad fill rule) (outcome BadRule scan masks)
-    (cond (some isOff L) (outcome OffGrid scan masks)
-    (cond (some isPoint L) (outcome NoLength scan masks)
-    (cond (some hasLeast L) (outcome BadCount scan masks) r))))
+    cond (isShort n (length work) (length masks)) (said 1 scan masks)
+    (cond (isBad fill rule) (said 2 scan masks)
+    (cond (some isOff L) (said 3 scan masks)
+    (cond (some isPoint L) (said 4 scan masks)
+    (cond (some hasLeast L) (said 5 scan masks) r))))
 
--- ---- the answer's number, by the table's sentences in its order
+-- ---- the number settles the case
 
-through : {A B : Type 0} (f : A → B) (t : Bool) {x y : A} {z w : B} → f x ≡ z → f y ≡ w → f (cond t x y) ≡ cond t z w
-through f true p q = p
-through f false p q = q
+caseOf : ℕ → Filled
+caseOf k = cond (eqb k 11) ScanFull (getD (Done ∷ Short ∷ BadRule ∷ OffGrid ∷ NoLength ∷ BadCount ∷ []) k Done)
 
-pub numbered : (work : List ℤ) (n fill rule : ℕ) (scan : List ℤ) (masks : List ℕ) → let L = rowsFrom segments work 0 n in
-    numberOf (filled work n fill rule scan masks .answer)
-    ≡ cond (isShort n (length work) (length masks)) 1 (cond (isBad fill rule) 2 (cond (some isOff L) 3 (cond (some isPoint L) 4 (cond (some hasLeast L) 5 (cond (crowded (scanRoom (length scan)) L) 11 0)))))
-unfolding filled swept
-numbered work n fill rule scan masks =
-    let L = rowsFrom segments work 0 n in
-    let f : Outcome → ℕ = λ o. numberOf (o .answer) in
-    through f (isShort n (length work) (length masks)) refl
-    (through f (isBad fill rule) refl
-    (through f (some isOff L) refl
-    (through f (some isPoint L) refl (through f (some hasLeast L) refl (through f (crowded (scanRoom (length scan)) L) refl refl)))))
+case-is : (r : Filled) → caseOf (numberOf r) ≡ r
+unfolding caseOf
+case-is Done = refl
+case-is Short = refl
+case-is BadRule = refl
+case-is OffGrid = refl
+case-is NoLength = refl
+case-is BadCount = refl
+case-is ScanFull = refl
+
+pub one-case : (r s : Filled) → numberOf r ≡ numberOf s → r ≡ s
+one-case r s e = sym (case-is r) ∙ ap caseOf e ∙ case-is s

@@ -9,7 +9,7 @@ ghost use Rattle.geom.specs.Limits.{scanRoom};
 ghost use Rattle.geom.specs.Rows.{segments};
 ghost use Rattle.scan.specs.Scan.{entries, EntryOf, OnGrids};
 ghost use Rattle.build.specs.Sweep.{ordered, NodeEnd, bytesBy, Swept};
-ghost use Rattle.build.specs.Fill.{outcome, filled};
+ghost use Rattle.build.specs.Fill.{fillSays, fillSaid};
 
 pub enum Filled {
     // 0: the masks hold the bytes.
@@ -37,7 +37,7 @@ pub fn fill(
     scan: &mut [i64],
     masks: &mut [u8],
 ) -> Filled
-    ensures { λ r. ⌜ outcome r (now (scan .exit)) (now (masks .exit)) ≡ filled (now (work .entry)) n fill rule (now (scan .entry)) (now (masks .entry)) ⌝ }
+    ensures { λ r. ⌜ fillSays r (now (scan .exit)) (now (masks .exit)) ≡ fillSaid (now (work .entry)) n fill rule (now (scan .entry)) (now (masks .entry)) ⌝ }
 {
     if crate::check::is_short(n, work.len(), masks.len()) {
         return Filled::Short;

@@ -15,9 +15,9 @@ use Rattle.geom.specs.declared.Segment.{Segment}
 use Rattle.geom.specs.Plane.{Side, subject, clip, count}
 use Rattle.segm.specs.Balance.{Balanced}
 use Rattle.rules.specs.Inside.{inside}
-use Rattle.rules.specs.Keep.{truth, bit, kept, sign}
+use Rattle.rules.specs.Keep.{flag, truth, bit, kept, sign}
 use Rattle.rules.specs.KeepLaws.{dropped-by-sign, sign-of-dropped}
-use Rattle.scan.specs.Masks.{bottom, top, flag, maskOf, byteOf}
+use Rattle.scan.specs.Masks.{bottom, top, maskOf, byteOf}
 use Rattle.laws.specs.Settled.{Settled}
 use Rattle.laws.specs.Law.{signOfSides, sides-law}
 use Rattle.demands.specs.Even.{Even}

@@ -1,38 +1,45 @@
--- Document 01, "Keeping", for a caller who may give any numbers.
-use mathlib.Core.Path.{_≡_, refl, ap}
-use mathlib.Core.Bool.{Bool, true, false, cond}
+-- Document 01, "Keeping", for a caller who may give any numbers: what `keep` says, in the paper's numbers.
+use mathlib.Core.Path.{_≡_, refl, sym, ap, _∙_}
+use mathlib.Core.Bool.{cond}
 use Prim.Native.Nat.{ℕ, _+_, _%_}
 use native.Mathlib.Omega.{arith}
-use lib.Dec.{ltb}
+use lib.Dec.{ltb, eqb}
 use Rattle.rules.specs.declared.keep.Decision.{Decision}
 use Rattle.rules.specs.declared.keep.Decision.the-variants.{Keep, Drop, BadRule}
-use Rattle.rules.specs.Keep.{kept}
+use Rattle.rules.specs.Keep.{flag, kept}
 
-abbrev choice : Bool → Bool → Decision
-choice bad keep = cond bad BadRule (cond keep Keep Drop)
+-- the number of the table, and 1 if the edge is kept
+pub record Said : Type 0 where
+  pub answer : ℕ
+  pub keep : ℕ
 
--- an overlay rule over 6 is refused; else the mask decides, which is the low four bits of the byte
-unfoldable pub decision : ℕ → ℕ → Decision
-decision rule byte = choice (ltb 6 rule) (kept rule (byte % 16))
+abbrev pub said : ℕ → ℕ → Said
+said a k = record { answer = a; keep = k }
 
--- document 01's number for each case
-abbrev pub numberOf : Decision → ℕ
-numberOf Keep = 0
-numberOf Drop = 0
-numberOf BadRule = 2
+-- number and value of each case
+abbrev pub keepSays : Decision → Said
+keepSays Keep = said 0 1
+keepSays Drop = said 0 0
+keepSays BadRule = said 2 0
 
-number : (bad keep : Bool) → numberOf (choice bad keep) ≡ cond bad 2 0
-number true keep = refl
-number false true = refl
-number false false = refl
+-- an overlay rule over 6 is refused with 2; else the mask decides, which is the low four bits of the byte
+unfoldable pub keepSaid : ℕ → ℕ → Said
+keepSaid rule byte = cond (ltb 6 rule) (said 2 0) (said 0 (flag (kept rule (byte % 16))))
 
--- refusal 2 exactly when the rule is out of range
-pub refused : (rule byte : ℕ) → numberOf (decision rule byte) ≡ cond (ltb 6 rule) 2 0
-unfolding decision
-refused rule byte = number (ltb 6 rule) (kept rule (byte % 16))
+-- what is said settles the decision
+caseOf : Said → Decision
+caseOf s = cond (eqb (s .answer) 2) BadRule (cond (eqb (s .keep) 1) Keep Drop)
+
+case-is : (r : Decision) → caseOf (keepSays r) ≡ r
+unfolding caseOf
+case-is Keep = refl
+case-is Drop = refl
+case-is BadRule = refl
+
+pub one-case : (r s : Decision) → keepSays r ≡ keepSays s → r ≡ s
+one-case r s e = sym (case-is r) ∙ ap caseOf e ∙ case-is s
 
 -- the byte of a kept edge decides as its mask does
-pub marked : (rule mask : ℕ) → decision rule (mask + 16) ≡ decision rule mask
-unfolding decision
-marked rule mask =
-    let low : (mask + 16) % 16 ≡ mask % 16 = omega arith in ap (λ (m : ℕ). choice (ltb 6 rule) (kept rule m)) low
+pub marked : (rule mask : ℕ) → keepSaid rule (mask + 16) ≡ keepSaid rule mask
+unfolding keepSaid
+marked rule mask = let low : (mask + 16) % 16 ≡ mask % 16 = omega arith in rw low

@@ -7,6 +7,9 @@ use lib.IntN.{ℤ, _-ℤ_}
 use lib.ListN.{getD}
 use Rattle.whole.specs.Sum.{ind}
 
+abbrev pub flag : Bool → ℕ
+flag t = cond t 1 0
+
 abbrev pub differ : Bool → Bool → Bool
 differ a b = cond a (not b) b
 

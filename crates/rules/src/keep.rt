@@ -2,7 +2,7 @@
 ghost use mathlib.Core.Path.{_≡_};
 ghost use Prim.Native.Nat.{_<_};
 ghost use Rattle.rules.specs.Keep.{kept};
-ghost use Rattle.rules.specs.Decision.{decision};
+ghost use Rattle.rules.specs.Decision.{keepSays, keepSaid};
 
 // What is to be done with an edge.
 pub enum Decision {
@@ -14,7 +14,7 @@ pub enum Decision {
 
 // Decides from an edge's byte, of which the low four bits are the mask: the byte of a kept edge, with 16 added, decides as its mask does.
 pub fn keep(rule: u32, byte: u8) -> Decision
-    ensures { λ r. ⌜ r ≡ decision rule byte ⌝ }
+    ensures { λ r. ⌜ keepSays r ≡ keepSaid rule byte ⌝ }
 {
     if 6 < rule {
         return Decision::BadRule;

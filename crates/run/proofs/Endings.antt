@@ -18,7 +18,7 @@ use Rattle.geom.specs.Rows.{segments}
 use Rattle.checks.specs.declared.Settings.{Settings}
 use Rattle.checks.specs.Accepted.{InRange}
 use Rattle.build.specs.declared.sweep.Filled.{Filled}
-use Rattle.build.specs.declared.sweep.Filled.the-variants.{Done, ScanFull}
+use Rattle.build.specs.declared.sweep.Filled.the-variants.{Done}
 use Rattle.scan.specs.Masks.{bytes, crowded}
 use Rattle.build.specs.Fill as fill
 use Rattle.build.proofs.sweep.Filled.{the-type}
@@ -46,34 +46,34 @@ module _ (s : Settings) (l : Lent) (k looks : ℕ) (range : InRange s) (kept : K
   abbrev full : Bool
   full = crowded (scanRoom (length (l .scan))) L
 
-  abbrev sweptBy : Bool → fill.Outcome
-  sweptBy b = cond b (fill.outcome ScanFull (zeros (l .scan)) (noMasks (l .masks))) (fill.outcome Done (zeros (l .scan)) (bytes (s .fill) (s .rule) L ++ drop (length L) (noMasks (l .masks))))
+  abbrev sweptBy : Bool → fill.Said
+  sweptBy b = cond b (fill.said 11 (zeros (l .scan)) (noMasks (l .masks))) (fill.said 0 (zeros (l .scan)) (bytes (s .fill) (s .rule) L ++ drop (length L) (noMasks (l .masks))))
 
-  filled-is : fill.filled (l .work) k (s .fill) (s .rule) (l .scan) (l .masks) ≡ sweptBy full
-  unfolding fill.filled fill.isShort fill.isBad fill.swept
+  filled-is : fill.fillSaid (l .work) k (s .fill) (s .rule) (l .scan) (l .masks) ≡ sweptBy full
+  unfolding fill.fillSaid fill.isShort fill.isBad fill.swept
   filled-is =
       let few = le-ltb segmentLimit k (omega (arith, kept .room)) in
       let rows = le-ltb (length (l .work)) (6 * k) (omega (arith, kept .room)) in
       let masks = le-ltb (length (l .masks)) k (omega (arith, kept .room, room)) in
       rw (few, rows, masks, le-ltb 3 (s .fill) (range .fill), le-ltb 6 (s .rule) (range .rule), none-faulty (all-map (λ v. sound-on) (kept .sound)), none-faulty (all-map (λ v. sound-long) (kept .sound)), none-faulty (all-map (λ v. sound-near) (kept .sound)))
 
-  module _ {r : Filled} {sc : List ℤ} {ms : List ℕ} (e : fill.outcome r sc ms ≡ fill.filled (l .work) k (s .fill) (s .rule) (l .scan) (l .masks)) where
+  module _ {r : Filled} {sc : List ℤ} {ms : List ℕ} (e : fill.fillSays r sc ms ≡ fill.fillSaid (l .work) k (s .fill) (s .rule) (l .scan) (l .masks)) where
     pub settles : {o : Outcome} {w m : List ℤ} → o .answer ≡ answer0 k looks → o .lists ≡ lent w m sc ms → r ≡ Done → w ≡ front segments (zeros (l .work)) L → m ≡ zeros (l .marks)
         → o ≡ swept s l (settled L looks)
     unfolding swept finished
     settles {w = w} {m = m} p q d f g = ap₂ (λ a t. record { answer = a; lists = t }) p q ∙ go full (e ∙ filled-is)
       where
-        go : (b : Bool) → fill.outcome r sc ms ≡ sweptBy b → ended (Settled k looks) w m sc ms ≡ cond b (cleared l Crowded) (finished s l L looks)
-        go true h = let q : Done ≡ ScanFull = sym d ∙ ap (λ o. o .answer) h in absurd (let z : _≡_ {A = ℕ} 0 1 = cc in omega arith)
+        go : (b : Bool) → fill.fillSays r sc ms ≡ sweptBy b → ended (Settled k looks) w m sc ms ≡ cond b (cleared l Crowded) (finished s l L looks)
+        go true h = let q : _≡_ {A = ℕ} 0 11 = sym (ap fill.numberOf d) ∙ ap (λ o. o .answer) h in absurd (omega arith)
         go false h = rw (f, g, ap (λ o. o .scan) h, ap (λ o. o .masks) h, length-rows segments (l .work) 0 k)
 
     pub refuses-11 : OneOf (1 ∷ 2 ∷ 3 ∷ 4 ∷ 5 ∷ 6 ∷ []) (tagOf the-type r) → cleared (lent (l .work) (l .marks) sc ms) Crowded ≡ swept s l (settled L looks)
     unfolding swept
     refuses-11 t = go full (e ∙ filled-is)
       where
-        go : (b : Bool) → fill.outcome r sc ms ≡ sweptBy b → cleared (lent (l .work) (l .marks) sc ms) Crowded ≡ cond b (cleared l Crowded) (finished s l L looks)
+        go : (b : Bool) → fill.fillSays r sc ms ≡ sweptBy b → cleared (lent (l .work) (l .marks) sc ms) Crowded ≡ cond b (cleared l Crowded) (finished s l L looks)
         go true h =
             let scans = ap (λ o. length (o .scan)) h ∙ length-replicate (length (l .scan)) (pos 0) in
             let bytes = ap (λ o. length (o .masks)) h ∙ length-replicate (length (l .masks)) 0 in
             rw (scans, bytes)
-        go false h = absurd (miss (1 ∷ 2 ∷ 3 ∷ 4 ∷ 5 ∷ 6 ∷ []) 0 tt (subst (λ q. OneOf (1 ∷ 2 ∷ 3 ∷ 4 ∷ 5 ∷ 6 ∷ []) (tagOf the-type q)) (ap (λ o. o .answer) h) t))
+        go false h = absurd (miss (1 ∷ 2 ∷ 3 ∷ 4 ∷ 5 ∷ 6 ∷ []) 0 tt (subst (λ q. OneOf (1 ∷ 2 ∷ 3 ∷ 4 ∷ 5 ∷ 6 ∷ []) (tagOf the-type q)) (fill.one-case r Done (ap (λ o. o .answer) h)) t))

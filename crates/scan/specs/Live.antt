@@ -9,7 +9,7 @@ use Rattle.whole.specs.Order.{zz, add-is, sub-is}
 use Rattle.whole.specs.Ring.{ring, reads}
 use Rattle.whole.specs.Sign.{mul-pos-neg, le-by-contra}
 use Rattle.whole.specs.Sum.{all-of, times-none, Over, over-same, keep, over-keep}
-use Rattle.whole.specs.Test.{of-true, and-l, and-r, tests, lt-true, lt-of, le-of}
+use Rattle.whole.specs.Test.{of-true, and-l, and-r, tests, lt-of, le-of}
 use Rattle.geom.specs.declared.Segment.{Segment}
 use Rattle.geom.specs.Plane.{turn, against, Before, by-x, by-y, before, upright}
 use Rattle.geom.specs.Tests.{before?, fails}
@@ -52,7 +52,7 @@ started t e q k h = le-by-contra (λ n. omega (zz, level, mul-pos-neg {a = X} {b
 
 pub below-live : (t e : Segment) → below t e ≡ true → live (e .a) t ≡ true
 unfolding below alive under live
-below-live t e b = rw (fails (before? (e .a) (t .a)) late, lt-true still)
+below-live t e b = let k = still in rw (fails (before? (e .a) (t .a)) late) (simp tests)
   where
     A : Bool
     A = leZ (t .a .x .0) (e .a .x .0)

@@ -11,7 +11,7 @@ use Rattle.geom.specs.declared.Point.{Point}
 use Rattle.geom.specs.declared.Segment.{Segment}
 use Rattle.geom.specs.Plane.{before, sameZ, upright, against, subject, clip, count}
 use Rattle.rules.specs.Inside.{inside}
-use Rattle.rules.specs.Keep.{kept}
+use Rattle.rules.specs.Keep.{flag, kept}
 
 -- t is not upright and x lies in its range: t.a.x <= x < t.b.x
 unfoldable pub alive : ℤ → Segment → Bool
@@ -46,9 +46,6 @@ unfoldable pub live : Point → Segment → Bool
 live p t = not (before p (t .a)) && ltZ (p .x .0) (t .b .x .0)
 
 -- ---- the bytes
-
-abbrev pub flag : Bool → ℕ
-flag t = cond t 1 0
 
 -- subject top 1, subject bottom 2, clip top 4, clip bottom 8
 unfoldable pub maskOf : ℕ → List Segment → Segment → ℕ

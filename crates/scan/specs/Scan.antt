@@ -15,8 +15,8 @@ use Rattle.geom.specs.Rows.{segments}
 use Rattle.scan.specs.declared.list.Entry.{Entry}
 use Rattle.scan.specs.declared.sums.Sums.{Sums}
 use Rattle.rules.specs.Inside.{inside}
-use Rattle.rules.specs.Keep.{kept}
-use Rattle.scan.specs.Masks.{flag, live, below}
+use Rattle.rules.specs.Keep.{flag, kept}
+use Rattle.scan.specs.Masks.{live, below}
 
 -- ---- entries as rows
 

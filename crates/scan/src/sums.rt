@@ -8,7 +8,7 @@ ghost use mir.Val.{SFits};
 ghost use Rattle.whole.specs.Kind.{rowsFrom};
 ghost use Rattle.whole.specs.Sum.{All};
 ghost use Rattle.geom.specs.Plane.{GridSegment};
-ghost use Rattle.scan.specs.Masks.{flag};
+ghost use Rattle.rules.specs.Keep.{flag};
 ghost use Rattle.scan.specs.Scan.{entries, EntryOf, OnGrids, addIf, sumsOf, sideBy, maskBy, byteBy};
 use crate::list::Entry;
 use geom::Count;

@@ -8,7 +8,7 @@ use lib.ListN.{length, length-replicate}
 use Rattle.whole.specs.Kind.{rowsFrom}
 use Rattle.whole.specs.KindLaws.{length-rows}
 use Rattle.geom.specs.Rows.{segments}
-use Rattle.build.specs.Fill.{isShort, isBad, isOff, isPoint, fault, some, swept, filled}
+use Rattle.build.specs.Fill.{isShort, isBad, isOff, isPoint, fault, some, swept, fillSaid}
 use Rattle.build.proofs.Filling.{long, a-rule, on-grids, refused-1, refused-2, refused-3, refused-4, refused-5, not-refused, left-full, left-bytes}
 use Rattle.build.proofs.sweep.fill.Statement.{statement}
 use Rattle.build.proofs.sweep.fill.Tie as tie
@@ -90,7 +90,7 @@ returns-5 c =
 abbrev first : tie.Else5 → tie.Else1
 first c = c .before .before .before .before .before .before .before .before
 
-passed : (c : tie.Else5) → let a = first c .before .before .before .args in filled (a .work .now) (a .n) (a .fill) (a .rule) (a .scan .now) (a .masks .now) ≡ swept (rowsFrom segments (a .work .now) 0 (a .n)) (a .fill) (a .rule) (a .scan .now) (a .masks .now)
+passed : (c : tie.Else5) → let a = first c .before .before .before .args in fillSaid (a .work .now) (a .n) (a .fill) (a .rule) (a .scan .now) (a .masks .now) ≡ swept (rowsFrom segments (a .work .now) 0 (a .n)) (a .fill) (a .rule) (a .scan .now) (a .masks .now)
 unfolding fault
 passed c =
     let h = c .before .before in

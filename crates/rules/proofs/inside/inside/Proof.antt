@@ -13,7 +13,7 @@ rem-result c = let f = c .before .fits .sum in rw (toZ-ofZ f) (omega arith, half
 
 returns : tie.Need-returns
 unfolding inside
-returns c = let f = c .before .fits .sum in rw (toZ-ofZ f, c .match .keys1, odd-bits (c .before .args .sum) f)
+returns c = let f = c .before .fits .sum in rw (toZ-ofZ f, c .match .keys1) (odd-bits (c .before .args .sum) f)
 
 returns-2 : tie.Need-returns-2
 unfolding inside

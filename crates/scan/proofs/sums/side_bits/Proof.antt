@@ -10,7 +10,7 @@ use mir.Facts.{toZ-ofZ}
 use borrow.Author.Needs.{needs, sfits-of}
 use Rattle.whole.specs.Fit.{held, widen}
 use Rattle.rules.specs.Inside.{inside}
-use Rattle.scan.specs.Masks.{flag}
+use Rattle.rules.specs.Keep.{flag}
 use Rattle.scan.specs.Scan.{sideBy}
 use Rattle.scan.proofs.sums.side_bits.Statement.{statement}
 use Rattle.scan.proofs.sums.side_bits.Tie as tie
