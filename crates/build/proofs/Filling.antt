@@ -1,10 +1,8 @@
 -- From the tests of `fill` to its outcome: each refusal, what is known where none is given, and what the sweep then leaves.
 use mathlib.Core.Path.{_≡_, refl, sym, ap, ap₂, _∙_}
-use mathlib.Core.Bool.{Bool, true, false, not, _||_}
+use mathlib.Core.Bool.{Bool, true, false, _||_}
 use mathlib.Core.List.{List, _++_}
-use mathlib.Core.Logic.{⊎-elim}
-use Prim.Native.Nat.{ℕ, zero, suc, _+_, _*_, _≤_, _<_}
-use native.Mathlib.Nat.{eq-or-lt-of-le}
+use Prim.Native.Nat.{ℕ, _+_, _*_, _≤_, _<_}
 use native.Mathlib.Omega.{arith}
 use lib.Dec.{ltb}
 use lib.IntN.{ℤ, pos}
@@ -14,14 +12,15 @@ use borrow.Author.Tests.{ltb-false}
 use Rattle.whole.specs.Kind.{rowsFrom}
 use Rattle.geom.specs.declared.Segment.{Segment}
 use Rattle.geom.specs.Limits.{segmentLimit, scanRoom}
-use Rattle.geom.specs.Plane.{gridSegment}
 use Rattle.geom.specs.Rows.{segments}
-use Rattle.geom.specs.Tests.{gridSegment?, when-true}
 use Rattle.build.specs.declared.sweep.Filled.the-variants.{Done, Short, BadRule, OffGrid, NoLength, BadCount, ScanFull}
+use Rattle.checks.specs.Checks.{some, isOff, isPoint, hasLeast}
+use Rattle.checks.specs.Accepted.{all-on-grid}
+use Rattle.scan.proofs.Entries.{all-row}
 use Rattle.scan.specs.Masks.{byteOf, bytes}
-use Rattle.scan.specs.Scan.{segmentAt, OnGrids}
+use Rattle.scan.specs.Scan.{OnGrids}
 use Rattle.build.specs.Sweep.{Swept}
-use Rattle.build.specs.Fill.{isShort, isBad, isOff, isPoint, hasLeast, some, fillSays, zeros, noMasks, swept, fillSaid}
+use Rattle.build.specs.Fill.{isShort, isBad, fillSays, zeros, noMasks, swept, fillSaid}
 
 -- ---- what a test that fails says
 
@@ -32,10 +31,6 @@ or-l false b e = refl
 or-r : (a b : Bool) → (a || b) ≡ false → b ≡ false
 or-r true b e = let z : _≡_ {A = ℕ} 0 1 = cc in absurd (omega arith)
 or-r false b e = e
-
-not-false : (b : Bool) → not b ≡ false → b ≡ true
-not-false true e = refl
-not-false false e = sym e
 
 pub long : (n work masks : ℕ) → isShort n work masks ≡ false → (6 * n ≤ work) × (n ≤ 2048) × (n ≤ masks)
 unfolding isShort
@@ -50,20 +45,8 @@ pub a-rule : (fill rule : ℕ) → isBad fill rule ≡ false → rule < 7
 unfolding isBad
 a-rule fill rule e = let h = ltb-false 6 rule (or-r (ltb 3 fill) (ltb 6 rule) e) in omega arith
 
-faultless : (has : Segment → Bool) (work : List ℤ) (i n : ℕ) → some has (rowsFrom segments work i n) ≡ false → (m : ℕ) → i ≤ m → m < i + n → has (segmentAt work m) ≡ false
-unfolding some rowsFrom
-faultless has work i zero e m h q = let z : ⊥ = omega arith in absurd z
-faultless has work i (suc n) e m h q =
-    let F = has (segmentAt work i) in
-    let S = some has (rowsFrom segments work (suc i) n) in
-    ⊎-elim (λ j. rw (← j) (or-l F S e)) (λ l. faultless has work (suc i) n (or-r F S e) m l (omega arith)) (eq-or-lt-of-le h)
-
 pub on-grids : (work : List ℤ) (n : ℕ) → some isOff (rowsFrom segments work 0 n) ≡ false → OnGrids work n
-on-grids work n e =
-    record {
-      each = λ m q.
-          when-true (gridSegment? (segmentAt work m)) (not-false (gridSegment (segmentAt work m)) (faultless isOff work 0 n e m (omega arith) (omega arith)));
-    }
+on-grids work n e = record { each = λ m q. all-row segments work 0 n (all-on-grid (rowsFrom segments work 0 n) e) m (omega arith) (omega arith) }
 
 -- ---- the outcome, refusal by refusal
 

@@ -1,22 +1,22 @@
 -- The sweep as a part of its own, in document 01's numbers: those of refusals 1 to 11 that its lists can meet, in order ("Input and answer", "How tight the
 -- promises are"), and what every lent list then holds.
 use mathlib.Core.Path.{_≡_, refl, sym, ap, _∙_}
-use mathlib.Core.Bool.{Bool, true, false, not, cond, _||_}
+use mathlib.Core.Bool.{Bool, cond, _||_}
 use mathlib.Core.List.{List, [], _∷_, _++_}
 use Prim.Native.Nat.{ℕ, _*_}
 use lib.Dec.{ltb, eqb}
-use lib.IntN.{ℤ, pos, negsuc}
+use lib.IntN.{ℤ, pos}
 use lib.ListN.{length, getD, drop, replicate}
 use Rattle.whole.specs.Kind.{rowsFrom}
 use Rattle.geom.specs.declared.Segment.{Segment}
-use Rattle.geom.specs.Plane.{sameZ, samePoint, gridSegment}
 use Rattle.geom.specs.Limits.{segmentLimit, scanRoom}
 use Rattle.geom.specs.Rows.{segments}
 use Rattle.build.specs.declared.sweep.Filled.{Filled}
 use Rattle.build.specs.declared.sweep.Filled.the-variants.{Done, Short, BadRule, OffGrid, NoLength, BadCount, ScanFull}
+use Rattle.checks.specs.Checks.{some, isOff, isPoint, hasLeast}
 use Rattle.scan.specs.Masks.{bytes, crowded}
 
--- ---- the refusals that change nothing
+-- ---- the refusals that change nothing; 3 to 5 are those of the checks
 
 -- 1, from n and the lengths of the work and mask lists
 unfoldable pub isShort : ℕ → ℕ → ℕ → Bool
@@ -25,30 +25,6 @@ isShort n work masks = ltb segmentLimit n || (ltb work (6 * n) || ltb masks n)
 -- 2
 unfoldable pub isBad : ℕ → ℕ → Bool
 isBad fill rule = ltb 3 fill || ltb 6 rule
-
--- 3
-abbrev pub isOff : Segment → Bool
-isOff v = not (gridSegment v)
-
--- 4
-abbrev pub isPoint : Segment → Bool
-isPoint v = samePoint (v .a) (v .b)
-
--- 5
-abbrev pub isLeast : ℤ → Bool
-isLeast z = sameZ z (negsuc 2147483647)
-
-abbrev pub hasLeast : Segment → Bool
-hasLeast v = isLeast (v .subject .0) || isLeast (v .clip .0)
-
--- these three by document 01's number
-unfoldable pub fault : ℕ → Segment → Bool
-fault k = cond (eqb k 3) isOff (cond (eqb k 4) isPoint hasLeast)
-
--- some segment has the fault
-unfoldable pub some : (Segment → Bool) → List Segment → Bool
-some has [] = false
-some has (v ∷ L) = has v || some has L
 
 -- ---- what is said
 

@@ -45,13 +45,13 @@ pub fn fill(
     if crate::check::is_bad(fill, rule) {
         return Filled::BadRule;
     }
-    if crate::check::some_fault(work, n, 3) {
+    if checks::some_fault(work, n, 3) {
         return Filled::OffGrid;
     }
-    if crate::check::some_fault(work, n, 4) {
+    if checks::some_fault(work, n, 4) {
         return Filled::NoLength;
     }
-    if crate::check::some_fault(work, n, 5) {
+    if checks::some_fault(work, n, 5) {
         return Filled::BadCount;
     }
     lists::clear_u8(masks);

@@ -20,8 +20,8 @@ use Rattle.segm.specs.Balance.{Balanced, balanced}
 use Rattle.segm.specs.BalanceLaws.{uneven?, balanced-test}
 use Rattle.checks.specs.declared.Fault.the-variants.{Sound}
 use Rattle.checks.specs.declared.Settings.{Settings}
-use Rattle.checks.specs.Checks.{isShort, faultOf}
-use Rattle.checks.specs.Exactly.{TooShort, OutOfRange, Has, OpenOutline, CoordinateOutside, short?, off?, exactly}
+use Rattle.checks.specs.Checks.{isShort, some, isOff, faultOf}
+use Rattle.checks.specs.Exactly.{TooShort, OutOfRange, Has, OpenOutline, CoordinateOutside, short?, has?, off?, exactly}
 
 -- 1
 pub record Roomy (n input work masks : ℕ) : Type 0 where
@@ -75,6 +75,10 @@ all-not L f = all-by L (λ v i p. f (v, i, p))
 
 on-grid : (v : Segment) → (CoordinateOutside v → ⊥) → GridSegment v
 on-grid v f = when-true (gridSegment? v) (not-false _ (fails (off? v) f))
+
+-- what no segment off the grid says of each
+pub all-on-grid : (L : List Segment) → some isOff L ≡ false → All GridSegment L
+all-on-grid L e = all-map on-grid (all-not L (when-false (has? off? L) e))
 
 is-balanced : (L : List Segment) → (OpenOutline L → ⊥) → (d : Side) → Balanced (count d) L
 is-balanced L f d = balanced-test (count d) L .0 (of-true (not-false (balanced (count d) L) (fails (uneven? (count d) L) (λ u. f (d, u)))))

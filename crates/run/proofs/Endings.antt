@@ -1,5 +1,5 @@
 -- How a run ends: all lists cleared, or the sweep of a settled list, which a list that keeps what every list keeps refuses with 11 only.
-use mathlib.Core.Path.{_≡_, refl, sym, ap, ap₂, _∙_, subst}
+use mathlib.Core.Path.{_≡_, sym, ap, ap₂, _∙_, subst}
 use mathlib.Core.Bool.{Bool, true, false, cond}
 use mathlib.Core.List.{List, [], _∷_, _++_}
 use Prim.Native.Nat.{ℕ, _*_, _≤_}
@@ -11,7 +11,7 @@ use denote.Enum.Declared.{tagOf}
 use types.Run.{OneOf, miss}
 use Rattle.whole.specs.Kind.{rowsFrom, front}
 use Rattle.whole.specs.KindLaws.{length-rows}
-use Rattle.whole.specs.Sum.{All, none, also, all-map}
+use Rattle.whole.specs.Sum.{all-map}
 use Rattle.geom.specs.declared.Segment.{Segment}
 use Rattle.geom.specs.Limits.{segmentLimit, workRoom, scanRoom}
 use Rattle.geom.specs.Rows.{segments}
@@ -29,15 +29,10 @@ use Rattle.overlay.specs.Looks.{settled}
 use Rattle.overlay.specs.Outcome.{Lent, Outcome, zeros, noMasks, cleared, finished, swept}
 use Rattle.run.specs.Kept.{Kept}
 use Rattle.run.specs.Lent.{lent, ended}
-use Rattle.run.proofs.Sound.{sound-on, sound-long, sound-near}
+use Rattle.run.proofs.Sound.{clear, sound-on, sound-long, sound-near}
 
 pub all-cleared : (l : Lent) (a : Answer) {w m s : List ℤ} {b : List ℕ} → w ≡ zeros (l .work) → m ≡ zeros (l .marks) → s ≡ zeros (l .scan) → b ≡ noMasks (l .masks) → ended a w m s b ≡ cleared l a
 all-cleared l a e f g h = rw (e, f, g, h)
-
-none-faulty : {fault : Segment → Bool} {L : List Segment} → All (λ v. fault v ≡ false) L → fill.some fault L ≡ false
-unfolding fill.some
-none-faulty none = refl
-none-faulty (also h k) = rw h (none-faulty k)
 
 module _ (s : Settings) (l : Lent) (k looks : ℕ) (range : InRange s) (kept : Kept (l .work) k) (room : workRoom (length (l .work)) ≤ length (l .masks)) where
   abbrev L : List Segment
@@ -55,9 +50,9 @@ module _ (s : Settings) (l : Lent) (k looks : ℕ) (range : InRange s) (kept : K
       let few = le-ltb segmentLimit k (omega (arith, kept .room)) in
       let rows = le-ltb (length (l .work)) (6 * k) (omega (arith, kept .room)) in
       let masks = le-ltb (length (l .masks)) k (omega (arith, kept .room, room)) in
-      rw (few, rows, masks, le-ltb 3 (s .fill) (range .fill), le-ltb 6 (s .rule) (range .rule), none-faulty (all-map (λ v. sound-on) (kept .sound)), none-faulty (all-map (λ v. sound-long) (kept .sound)), none-faulty (all-map (λ v. sound-near) (kept .sound)))
+      rw (few, rows, masks, le-ltb 3 (s .fill) (range .fill), le-ltb 6 (s .rule) (range .rule), clear (all-map (λ v. sound-on) (kept .sound)), clear (all-map (λ v. sound-long) (kept .sound)), clear (all-map (λ v. sound-near) (kept .sound)))
 
-  module _ {r : Filled} {sc : List ℤ} {ms : List ℕ} (e : fill.fillSays r sc ms ≡ fill.fillSaid (l .work) k (s .fill) (s .rule) (l .scan) (l .masks)) where
+  module _ (r : Filled) {sc : List ℤ} {ms : List ℕ} (e : fill.fillSays r sc ms ≡ fill.fillSaid (l .work) k (s .fill) (s .rule) (l .scan) (l .masks)) where
     pub settles : {o : Outcome} {w m : List ℤ} → o .answer ≡ answer0 k looks → o .lists ≡ lent w m sc ms → r ≡ Done → w ≡ front segments (zeros (l .work)) L → m ≡ zeros (l .marks)
         → o ≡ swept s l (settled L looks)
     unfolding swept finished

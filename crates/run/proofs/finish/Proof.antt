@@ -40,7 +40,7 @@ returns c =
     let m = a .before .before .before .before .before in
     let s = begun (m .before .before .before .before) in
     let x = s .args in
-    a .refuse .ensures ∙ refuses-11 (x .settings) (lists s) (x .k) (x .looks) (s .pre .0) (s .pre .1 .0) (s .pre .1 .1) (m .before .before .before .before .fill .ensures) (m .match .keys2)
+    a .refuse .ensures ∙ refuses-11 (x .settings) (lists s) (x .k) (x .looks) (s .pre .0) (s .pre .1 .0) (s .pre .1 .1) (m .before .before .before .before .fill .result) (m .before .before .before .before .fill .ensures) (m .match .keys2)
 
 clear-behind-requires : tie.Need-clear-behind-requires
 clear-behind-requires c κs = search needs
@@ -67,7 +67,7 @@ returns-2 c =
     let f = m .before .before .before .before .before in
     let s = begun f in
     let x = s .args in
-    settles (x .settings) (lists s) (x .k) (x .looks) (s .pre .0) (s .pre .1 .0) (s .pre .1 .1) (f .fill .ensures) (cc) refl (m .enum-told .given .1) (b .clear-behind .ensures) (c .before .clear-i32 .ensures)
+    settles (x .settings) (lists s) (x .k) (x .looks) (s .pre .0) (s .pre .1 .0) (s .pre .1 .1) (f .fill .result) (f .fill .ensures) (cc) refl (m .enum-told .given .1) (b .clear-behind .ensures) (c .before .clear-i32 .ensures)
 
 pub finish-spec : {M : Type 1} → statement M
 finish-spec =

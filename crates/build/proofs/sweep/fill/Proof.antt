@@ -8,7 +8,8 @@ use lib.ListN.{length, length-replicate}
 use Rattle.whole.specs.Kind.{rowsFrom}
 use Rattle.whole.specs.KindLaws.{length-rows}
 use Rattle.geom.specs.Rows.{segments}
-use Rattle.build.specs.Fill.{isShort, isBad, isOff, isPoint, fault, some, swept, fillSaid}
+use Rattle.checks.specs.Checks.{some, isOff, isPoint}
+use Rattle.build.specs.Fill.{isShort, isBad, swept, fillSaid}
 use Rattle.build.proofs.Filling.{long, a-rule, on-grids, refused-1, refused-2, refused-3, refused-4, refused-5, not-refused, left-full, left-bytes}
 use Rattle.build.proofs.sweep.fill.Statement.{statement}
 use Rattle.build.proofs.sweep.fill.Tie as tie
@@ -22,11 +23,9 @@ rules : (c : tie.Else2) → let a = c .before .before .before .before .before .a
 rules c = sym (c .before .is-bad .ensures) ∙ c .if2 .left
 
 gridded : (c : tie.Else3) → let a = c .before .before .before .before .before .before .before .args in some isOff (rowsFrom segments (a .work .now) 0 (a .n)) ≡ false
-unfolding fault
 gridded c = sym (c .before .some-fault .ensures) ∙ c .if3 .left
 
 lengthy : (c : tie.Else4) → let a = c .before .before .before .before .before .before .before .before .before .args in some isPoint (rowsFrom segments (a .work .now) 0 (a .n)) ≡ false
-unfolding fault
 lengthy c = sym (c .before .some-fault2 .ensures) ∙ c .if4 .left
 
 enough : (c : tie.Else1) → let a = c .before .before .before .args in (6 * a .n ≤ length (a .work .now)) × (a .n ≤ 2048) × (a .n ≤ length (a .masks .now))
@@ -53,7 +52,6 @@ some-fault-requires : tie.Need-some-fault-requires
 some-fault-requires c κs = enough (c .before .before) .0
 
 returns-3 : tie.Need-returns-3
-unfolding fault
 returns-3 c =
     let f = c .before .before in
     let e = f .before .before in
@@ -64,7 +62,6 @@ some-fault-requires-2 : tie.Need-some-fault-requires-2
 some-fault-requires-2 c κs = enough (c .before .before .before .before) .0
 
 returns-4 : tie.Need-returns-4
-unfolding fault
 returns-4 c =
     let g = c .before .before in
     let f = g .before .before in
@@ -76,7 +73,6 @@ some-fault-requires-3 : tie.Need-some-fault-requires-3
 some-fault-requires-3 c κs = enough (c .before .before .before .before .before .before) .0
 
 returns-5 : tie.Need-returns-5
-unfolding fault
 returns-5 c =
     let h = c .before .before in
     let g = h .before .before in
@@ -91,7 +87,6 @@ abbrev first : tie.Else5 → tie.Else1
 first c = c .before .before .before .before .before .before .before .before
 
 passed : (c : tie.Else5) → let a = first c .before .before .before .args in fillSaid (a .work .now) (a .n) (a .fill) (a .rule) (a .scan .now) (a .masks .now) ≡ swept (rowsFrom segments (a .work .now) 0 (a .n)) (a .fill) (a .rule) (a .scan .now) (a .masks .now)
-unfolding fault
 passed c =
     let h = c .before .before in
     let g = h .before .before in
