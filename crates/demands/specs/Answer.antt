@@ -3,14 +3,14 @@ use mathlib.Core.Path.{_≡_, refl, sym, ap, ap₂, _∙_, subst}
 use mathlib.Core.Bool.{Bool, true, false, not, cond}
 use mathlib.Core.List.{List, map}
 use mathlib.Core.Logic.{_≢_}
-use Prim.Native.Nat.{ℕ, zero, suc, _+_, _-_}
+use Prim.Native.Nat.{ℕ, zero, suc, _+_, _-_, _≤_}
 use native.Mathlib.Omega.{arith}
 use lib.IntN.{ℤ}
 use lib.Dec.{eqb, ltb}
 use lib.ListN.{length, take, length-map}
 use lib.Seq.{take-append-seam}
 use Rattle.whole.specs.Kind.{rowsFrom}
-use Rattle.whole.specs.KindLaws.{rows-front}
+use Rattle.whole.specs.KindLaws.{length-rows, rows-front}
 use Rattle.geom.specs.declared.Segment.{Segment}
 use Rattle.geom.specs.Limits.{workRoom, markRoom, scanRoom}
 use Rattle.geom.specs.Rows.{segments}
@@ -28,7 +28,9 @@ use Rattle.overlay.specs.declared.answer.Answer.the-variants.{Unsettled, ScanFu
 use Rattle.overlay.specs.Numbers.{told, answer0}
 use Rattle.overlay.specs.Looks.{Ran, settled, refused, radius, joined, lookAt, looksFrom, ran}
 use Rattle.overlay.specs.Outcome.{Lent, Outcome, zeros, cleared, finished, swept, unless, outcome}
-use Rattle.demands.specs.Chain.{cut, Chain, run-chain}
+use Rattle.demands.specs.Chain.{cut, Chain}
+use Rattle.demands.specs.Exactly.{settles-exactly}
+use Rattle.demands.specs.Lengths.{start-fits, looks-fit}
 
 -- the segments of the input
 abbrev pub given : List ℤ → Settings → List Segment
@@ -41,6 +43,7 @@ edges o m = rowsFrom segments (o .lists .work) 0 m
 pub record Answered (input : List ℤ) (s : Settings) (l : Lent) (o : Outcome) (m looks : ℕ) : Type 0 where
   pub accepted : Accepted input s (length (l .work)) (length (l .masks))
   pub chain : Chain (given input s) (edges o m) looks
+  pub room : m ≤ workRoom (length (l .work))
   pub bytes : take m (o .lists .masks) ≡ bytes (s .fill) (s .rule) (edges o m)
 
 -- ---- a refusal is not answer 0
@@ -116,9 +119,13 @@ module _ (input : List ℤ) (s : Settings) (l : Lent) (m looks : ℕ) where
   given-by : (o : Outcome) → Accepted input s (length (l .work)) (length (l .masks)) → Swept s l result o m looks → Answered input s l o m looks
   given-by o a w =
       let e = list-given o w in
+      let L = given input s in
+      let r = settles-exactly _ _ (s .budget) L (w .list) looks .0 (w .ran) in
+      let fits = looks-fit (r .0 .chain) (r .2) (omega (arith, start-fits L, length-rows segments input 0 (s .n), a .roomy .room)) in
       record {
         accepted = a;
-        chain = subst (λ K. Chain (given input s) K looks) (sym e) (run-chain _ _ (s .budget) (given input s) (w .list) looks (w .ran));
+        chain = subst (λ K. Chain (given input s) K looks) (sym e) (r .0);
+        room = omega (arith, fits, w .number);
         bytes = bytes-given o w ∙ ap (bytes (s .fill) (s .rule)) (sym e);
       }
 

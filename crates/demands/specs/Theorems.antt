@@ -5,9 +5,9 @@ use mathlib.Core.Path.{_≡_, sym, ap, _∙_}
 use mathlib.Core.Bool.{true, false}
 use mathlib.Core.List.{List, map}
 use mathlib.Core.Logic.{_↔_, _≢_}
-use Prim.Native.Nat.{ℕ, _-_, _%_, _<_}
+use Prim.Native.Nat.{ℕ, _-_, _%_, _<_, _≤_}
 use lib.IntN.{ℤ, pos, _*ℤ_}
-use lib.ListN.{getD}
+use lib.ListN.{getD, length}
 use lib.Signed.{_<ℤ_}
 use Rattle.whole.specs.Order.{zz}
 use Rattle.whole.specs.Kind.{rowAt}
@@ -16,6 +16,7 @@ use Rattle.geom.specs.declared.Point.{Point}
 use Rattle.geom.specs.declared.Segment.{Segment}
 use Rattle.geom.specs.Plane.{Side, Before, by-x, by-y, count}
 use Rattle.geom.specs.Off.{Off, On, EndOf, cross}
+use Rattle.geom.specs.Limits.{workRoom}
 use Rattle.geom.specs.Rows.{segments}
 use Rattle.segm.specs.Forward.{forward as turned-forward, sorted}
 use Rattle.segm.specs.Merge.{tooBig}
@@ -88,6 +89,10 @@ module _ (input : List ℤ) (s : Settings) (l : Lent) (m looks : ℕ) (zero : ou
 
   even : Even K
   even = all-even (facts .chain .chain) (facts .accepted .balanced) .final
+
+  -- "Input and answer": m is within the work capacity
+  pub within-capacity : m ≤ workRoom (length (l .work))
+  within-capacity = facts .room
 
   -- ---- demand 1
 
