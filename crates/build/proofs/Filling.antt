@@ -1,5 +1,5 @@
 -- From the tests of `fill` to its outcome: each refusal, what is known where none is given, and what the sweep then leaves.
-use mathlib.Core.Path.{_≡_, refl, sym, ap, ap₂, _∙_}
+use mathlib.Core.Path.{_≡_, sym, ap, ap₂, _∙_}
 use mathlib.Core.Bool.{Bool, true, false, _||_}
 use mathlib.Core.List.{List, _++_}
 use Prim.Native.Nat.{ℕ, _+_, _*_, _≤_, _<_}
@@ -10,13 +10,13 @@ use lib.ListN.{length, drop, replicate, length-map, length-replicate}
 use lib.Seq.{sets, sets-eq}
 use borrow.Author.Tests.{ltb-false}
 use Rattle.whole.specs.Kind.{rowsFrom}
+use Rattle.whole.specs.Test.{neither}
 use Rattle.geom.specs.declared.Segment.{Segment}
 use Rattle.geom.specs.Limits.{segmentLimit, scanRoom}
 use Rattle.geom.specs.Rows.{segments}
 use Rattle.build.specs.declared.sweep.Filled.the-variants.{Done, Short, BadRule, OffGrid, NoLength, BadCount, ScanFull}
 use Rattle.checks.specs.Checks.{some, isOff, isPoint, hasLeast}
-use Rattle.checks.specs.Accepted.{all-on-grid}
-use Rattle.scan.proofs.Entries.{all-row}
+use Rattle.checks.proofs.Some.{each-on-grid}
 use Rattle.scan.specs.Masks.{byteOf, bytes}
 use Rattle.scan.specs.Scan.{OnGrids}
 use Rattle.build.specs.Sweep.{Swept}
@@ -24,29 +24,19 @@ use Rattle.build.specs.Fill.{isShort, isBad, fillSays, zeros, noMasks, s
 
 -- ---- what a test that fails says
 
-or-l : (a b : Bool) → (a || b) ≡ false → a ≡ false
-or-l true b e = e
-or-l false b e = refl
-
-or-r : (a b : Bool) → (a || b) ≡ false → b ≡ false
-or-r true b e = let z : _≡_ {A = ℕ} 0 1 = cc in absurd (omega arith)
-or-r false b e = e
-
 pub long : (n work masks : ℕ) → isShort n work masks ≡ false → (6 * n ≤ work) × (n ≤ 2048) × (n ≤ masks)
 unfolding isShort
 long n work masks e =
-    let A = ltb segmentLimit n in
-    let B = ltb work (6 * n) in
-    let C = ltb masks n in
-    let f = or-r A (B || C) e in
-    (ltb-false work (6 * n) (or-l B C f), ltb-false segmentLimit n (or-l A (B || C) e), ltb-false masks n (or-r B C f))
+    let f = neither (ltb segmentLimit n) (ltb work (6 * n) || ltb masks n) e in
+    let g = neither (ltb work (6 * n)) (ltb masks n) (f .1) in
+    (ltb-false work (6 * n) (g .0), ltb-false segmentLimit n (f .0), ltb-false masks n (g .1))
 
 pub a-rule : (fill rule : ℕ) → isBad fill rule ≡ false → rule < 7
 unfolding isBad
-a-rule fill rule e = let h = ltb-false 6 rule (or-r (ltb 3 fill) (ltb 6 rule) e) in omega arith
+a-rule fill rule e = let h = ltb-false 6 rule (neither (ltb 3 fill) (ltb 6 rule) e .1) in omega arith
 
 pub on-grids : (work : List ℤ) (n : ℕ) → some isOff (rowsFrom segments work 0 n) ≡ false → OnGrids work n
-on-grids work n e = record { each = λ m q. all-row segments work 0 n (all-on-grid (rowsFrom segments work 0 n) e) m (omega arith) (omega arith) }
+on-grids work n e = record { each = each-on-grid work n e }
 
 -- ---- the outcome, refusal by refusal
 
