@@ -28,6 +28,8 @@ pub mod model;
 #[cfg(i_overlay)]
 mod oracle;
 mod outcome;
+#[cfg(i_overlay)]
+pub mod parts;
 pub mod random;
 pub mod text;
 

@@ -18,7 +18,7 @@ use crate::split::{cross_pair, solver::SplitSolver};
 use crate::{Cross, Lists, Outcome, Row, Settings};
 use std::collections::HashMap;
 
-type Segment = segment::Segment<ShapeCountBoolean, i32, ()>;
+pub(crate) type Segment = segment::Segment<ShapeCountBoolean, i32, ()>;
 
 /// The run, with sums in 64 bits, or in 32 bits as the crate has them; then 9 is never given.
 pub fn run(input: &[i32], settings: Settings, lists: Lists, narrow: bool) -> Outcome {
@@ -62,7 +62,7 @@ fn settle_and_fill(
 }
 
 /// Each segment's mask, 16 added where it is kept; or 11.
-fn filled(segments: &[Segment], fill: u32, rule: u32, solver: &Solver) -> Result<Vec<u8>, u32> {
+pub(crate) fn filled(segments: &[Segment], fill: u32, rule: u32, solver: &Solver) -> Result<Vec<u8>, u32> {
     let mut builder = GraphBuilder::<ShapeCountBoolean, OverlayNode, i32, ()>::new();
     let (fill, rule) = (FillRule::ALL[fill as usize], OverlayRule::ALL[rule as usize]);
     builder.build_boolean_overlay(fill, rule, IntOverlayOptions::default(), solver, segments);
@@ -152,7 +152,7 @@ fn turned(row: &Row, narrow: bool) -> Segment {
     Segment::create_and_validate_with_data(s.x_segment.a, s.x_segment.b, s.count, (), &mut ())
 }
 
-fn as_given(&[ax, ay, bx, by, subj, clip]: &Row, narrow: bool) -> Segment {
+pub(crate) fn as_given(&[ax, ay, bx, by, subj, clip]: &Row, narrow: bool) -> Segment {
     let x_segment = XSegment { a: IntPoint::new(ax, ay), b: IntPoint::new(bx, by) };
     Segment { x_segment, count: ShapeCountBoolean::with_width(subj, clip, narrow), data: () }
 }

@@ -106,7 +106,7 @@ impl<I: OverlayInt> SplitSolver<I> {
     }
 
     /// Every pair i < j; 7 as soon as there are more marks than room.
-    fn look<C, D>(&mut self, segments: &[Segment<C, I, D>], room: usize) -> Result<(), u32> {
+    pub(crate) fn look<C, D>(&mut self, segments: &[Segment<C, I, D>], room: usize) -> Result<(), u32> {
         self.marks.clear();
         for (i, s) in segments.iter().enumerate() {
             for (j, t) in segments.iter().enumerate().skip(i + 1) {
@@ -115,6 +115,11 @@ impl<I: OverlayInt> SplitSolver<I> {
             }
         }
         Ok(())
+    }
+
+    /// How many marks the last look yielded.
+    pub(crate) fn marks(&self) -> usize {
+        self.marks.len()
     }
 
     fn distinct(&self) -> usize {
@@ -168,4 +173,9 @@ pub(crate) fn cross_pair(target: &XSegment<i32>, other: &XSegment<i32>, radius_s
     assert_eq!(rounded, found.is_round, "a pair says twice whether it was rounded");
     let marks = marks.iter().map(|mark| (mark.index, mark.point.x, mark.point.y)).collect();
     Some(Cross { kind, point: (found.point.x, found.point.y), rounded, marks })
+}
+
+/// Whether a pair crosses by the crate.
+pub(crate) fn crosses(target: &XSegment<i32>, other: &XSegment<i32>) -> bool {
+    CrossSolver::<i32>::cross(target, other, RADIUS.into()).is_some()
 }
