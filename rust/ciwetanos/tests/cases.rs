@@ -1,7 +1,9 @@
-//! Each answer through the wrapper, worked out by hand from document 01.
+//! Each answer through the wrapper, worked out by hand from document 01, and the areas of `examples/` at the root.
 
-use ciwetanos::text::answer;
+use ciwetanos::text::{answer, Area};
 use ciwetanos::{cross, outline, overlay, raw, FillRule, Kind, OverlayRule, Refusal, Segment, Settings};
+use std::fs;
+use std::path::Path;
 
 const EDGE: i32 = 1 << 30;
 
@@ -105,4 +107,21 @@ fn pairs() {
     assert_eq!(cross([(0, 0), (EDGE - 1, 0)], [(1, 1), (1, 1)]), Err(Refusal::NoLength));
     assert_eq!(raw::cross(&[0; 7]).answer, 1);
     assert_eq!(raw::cross(&[0; 9]).answer, 1);
+}
+
+/// Each NAME.txt of `examples/` is answered as NAME.expected says.
+#[test]
+fn areas() {
+    let folder = Path::new(env!("CARGO_MANIFEST_DIR")).join("../../examples");
+    let mut tried = 0;
+    for entry in fs::read_dir(&folder).expect("examples/ at the root") {
+        let path = entry.unwrap().path();
+        if path.extension().is_some_and(|e| e == "txt") {
+            let area: Area = fs::read_to_string(&path).unwrap().parse().unwrap();
+            let expected = fs::read_to_string(path.with_extension("expected")).unwrap();
+            assert_eq!(answer(&overlay(&area.segments, area.settings)), expected, "{}", path.display());
+            tried += 1;
+        }
+    }
+    assert!(tried >= 3, "only {tried} areas");
 }
