@@ -2,14 +2,20 @@
 //! `bench WORD` for those with the word in their name.
 //!
 //! `bench count ROW SIDE TIMES` does one row of one side so many times and prints nothing, so that instructions can be counted from outside;
-//! `bench rows` prints the names of the rows.
+//! `bench rows` prints the names of the rows, `bench memory` the memory of whole runs.
 
 #[cfg(i_overlay)]
 mod inputs;
 #[cfg(i_overlay)]
+mod memory;
+#[cfg(i_overlay)]
 mod parts;
 #[cfg(i_overlay)]
 mod rows;
+
+#[cfg(i_overlay)]
+#[global_allocator]
+static COUNTING: memory::Counting = memory::Counting;
 
 #[cfg(not(i_overlay))]
 fn main() {
@@ -21,6 +27,7 @@ fn main() {
     let words: Vec<String> = std::env::args().skip(1).collect();
     match words.iter().map(String::as_str).collect::<Vec<_>>()[..] {
         [] => tell(""),
+        ["memory"] => memory::tell(),
         ["rows"] => rows::all().iter().for_each(|row| println!("{}", row.name)),
         ["count", name, side, times] => {
             let row = rows::all().into_iter().find(|row| row.name == name).expect("a row of this name");
@@ -32,7 +39,7 @@ fn main() {
             }
         }
         [word] => tell(word),
-        _ => eprintln!("bench [WORD] | bench rows | bench count ROW ours|rust TIMES"),
+        _ => eprintln!("bench [WORD] | bench rows | bench memory | bench count ROW ours|rust TIMES"),
     }
 }
 

@@ -62,12 +62,14 @@ fn timed(part: &mut dyn Part) -> (Duration, usize) {
     (start.elapsed(), std::hint::black_box(result))
 }
 
-/// Wholly apart; each across its neighbours; each across many others.
-const KINDS: [(&str, i32); 3] = [("short scattered", 45), ("medium", 80), ("dense", 200)];
+/// Wholly apart; each across its neighbours; each across many others. As many segments to start with as come to about 512 and to about
+/// 2,048 in the end.
+pub const RUNS: [(&str, i32, [usize; 2]); 3] =
+    [("short scattered", 45, [512, 2048]), ("medium", 80, [148, 560]), ("dense", 200, [60, 156])];
 
 pub fn all() -> Vec<Row> {
     let mut rows = Vec::new();
-    for (kind, size) in KINDS {
+    for (kind, size, _) in RUNS {
         for n in [512, 2048] {
             rows.push(Row::new(format!("look {n} {kind}"), move || {
                 let list = in_order(&outlines(n, size));
@@ -75,8 +77,7 @@ pub fn all() -> Vec<Row> {
             }));
         }
     }
-    // As many segments to start with as come to about 512 and about 2,048 in the end.
-    for ((kind, size), starts) in KINDS.into_iter().zip([[512, 2048], [148, 560], [60, 156]]) {
+    for (kind, size, starts) in RUNS {
         for n in starts {
             rows.push(Row::new(format!("run {n} {kind}"), move || {
                 let input = outlines(n, size);
@@ -104,7 +105,7 @@ pub fn all() -> Vec<Row> {
             (merge(&list), Theirs(Parts::new(&list), Parts::merge))
         }));
     }
-    for ((kind, size), n) in KINDS.into_iter().zip([2048, 560, 156]) {
+    for (kind, size, [_, n]) in RUNS {
         rows.push(Row::new(format!("sweep after run {n} {kind}"), move || {
             let list = settled(&outlines(n, size));
             (sweep(&list), Theirs(Parts::new(&list), |p| p.sweep(1, 3)))

@@ -147,7 +147,7 @@ fn is_open(rows: &[Row]) -> bool {
     sums.values().any(|sum| *sum != [0, 0])
 }
 
-fn turned(row: &Row, narrow: bool) -> Segment {
+pub(crate) fn turned(row: &Row, narrow: bool) -> Segment {
     let s = as_given(row, narrow);
     Segment::create_and_validate_with_data(s.x_segment.a, s.x_segment.b, s.count, (), &mut ())
 }

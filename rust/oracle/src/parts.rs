@@ -3,7 +3,7 @@
 use crate::core::solver::Solver;
 use crate::geom::x_segment::XSegment;
 use crate::int::point::IntPoint;
-use crate::oracle::{as_given, filled, Segment};
+use crate::oracle::{as_given, filled, turned, Segment};
 use crate::segm::merge::ShapeSegmentsMerge;
 use crate::segm::sort::ShapeSegmentsSort;
 use crate::split::{crosses, solver::SplitSolver};
@@ -47,6 +47,15 @@ impl Parts {
     pub fn sweep(&mut self, fill: u32, rule: u32) -> usize {
         filled(&self.segments, fill, rule, &Solver::own()).map_or(0, |bytes| bytes.len())
     }
+}
+
+/// A whole run from the turned segments on, with all the room it asks for: how many bytes there are.
+pub fn run(rows: &[Row], fill: u32, rule: u32) -> usize {
+    let mut segments: Vec<Segment> = rows.iter().map(|row| turned(row, false)).collect();
+    let all = usize::MAX;
+    let solver = Solver::new(all, all, all, 64);
+    SplitSolver::new().split_segments_with_store(&mut segments, &solver, &mut ());
+    filled(&segments, fill, rule, &solver).map_or(0, |bytes| bytes.len())
 }
 
 /// Pairs of segments: target a, b, other a, b.
