@@ -1,4 +1,3 @@
--- In reading order: what sorted rows are; what callers know of them; what the steps of the heap sort promise.
+-- In reading order: what sorted rows are; what callers know of them.
 pub mod Sorted
 pub mod SortedLaws
-pub mod Heap
