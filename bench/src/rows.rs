@@ -3,7 +3,7 @@
 use crate::inputs::{self, in_order, outlines};
 use crate::parts;
 use ciwetanos::raw;
-use oracle::parts::{Pairs, Parts};
+use oracle::parts::Parts;
 use oracle::{Lists, Row as Numbers, Settings};
 use std::time::{Duration, Instant};
 
@@ -90,8 +90,7 @@ pub fn all() -> Vec<Row> {
     {
         rows.push(Row::new(format!("cross 4096 pairs {kind}"), move || {
             let pairs = inputs::pairs(4096, size - 1, crossing);
-            let theirs = Pairs::new(&pairs);
-            (Cross(pairs), TheirCross(theirs))
+            (Cross(pairs.clone()), TheirCross(pairs))
         }));
     }
     rows.push(Row::new("sort 2048".into(), || {
@@ -184,8 +183,16 @@ struct Cross(Vec<[i32; 8]>);
 
 impl Part for Cross {
     fn work(&mut self) -> usize {
-        self.0.iter().filter(|pair| raw::cross(*pair).kind != 0).count()
+        total(&self.0, |pair| {
+            let r = raw::cross(pair);
+            [r.answer, r.kind, r.x as u64, r.y as u64, r.rounded, r.mask]
+        })
     }
+}
+
+/// All numbers that are told of all pairs, added up in 32 bits.
+fn total(pairs: &[[i32; 8]], told: impl Fn(&[i32; 8]) -> [u64; 6]) -> usize {
+    pairs.iter().flat_map(told).fold(0u32, |sum, number| sum.wrapping_add(number as u32)) as usize
 }
 
 // ---- the crate's
@@ -202,11 +209,14 @@ impl Part for Theirs {
     }
 }
 
-struct TheirCross(Pairs);
+struct TheirCross(Vec<[i32; 8]>);
 
 impl Part for TheirCross {
     fn work(&mut self) -> usize {
-        self.0.cross()
+        total(&self.0, |pair| {
+            let r = oracle::parts::cross(pair);
+            [r.answer, r.kind, r.x as u64, r.y as u64, r.rounded, r.mask]
+        })
     }
 }
 

@@ -6,8 +6,8 @@ use crate::int::point::IntPoint;
 use crate::oracle::{as_given, filled, turned, Segment};
 use crate::segm::merge::ShapeSegmentsMerge;
 use crate::segm::sort::ShapeSegmentsSort;
-use crate::split::{crosses, solver::SplitSolver};
-use crate::Row;
+use crate::split::{crossed, solver::SplitSolver};
+use crate::{Kind, Row};
 
 /// A list of segments, as it was given and as a part leaves it.
 pub struct Parts {
@@ -58,18 +58,40 @@ pub fn run(rows: &[Row], fill: u32, rule: u32) -> usize {
     filled(&segments, fill, rule, &solver).map_or(0, |bytes| bytes.len())
 }
 
-/// Pairs of segments: target a, b, other a, b.
-pub struct Pairs(Vec<(XSegment<i32>, XSegment<i32>)>);
+/// What is told of a pair: the answer of document 01; kind 0 nothing, 1 Pure, 2 TargetEnd, 3 OtherEnd, 4 Overlay; the point;
+/// whether it was rounded; an Overlay's mask.
+#[derive(Clone, Copy, Default)]
+pub struct Told {
+    pub answer: u64,
+    pub kind: u64,
+    pub x: i64,
+    pub y: i64,
+    pub rounded: u64,
+    pub mask: u64,
+}
 
-impl Pairs {
-    pub fn new(pairs: &[[i32; 8]]) -> Self {
-        let segment = |ax, ay, bx, by| XSegment { a: IntPoint::new(ax, ay), b: IntPoint::new(bx, by) };
-        let pair = |p: &[i32; 8]| (segment(p[0], p[1], p[2], p[3]), segment(p[4], p[5], p[6], p[7]));
-        Pairs(pairs.iter().map(pair).collect())
+/// How two segments cross: target a, b, other a, b. Around the crate's own code what document 01 asks first, which the crate leaves to its
+/// caller: 3 off the grid, then 4 without length. A call, as the library is.
+#[inline(never)]
+pub fn cross(pair: &[i32; 8]) -> Told {
+    if !pair.iter().all(|c| (-(1 << 30)..1 << 30).contains(c)) {
+        return Told { answer: 3, ..Told::default() };
     }
-
-    /// How many cross.
-    pub fn cross(&self) -> usize {
-        self.0.iter().filter(|(target, other)| crosses(target, other)).count()
+    let [target, other] = [0, 4].map(|k| {
+        let point = |k: usize| IntPoint::new(pair[k], pair[k + 1]);
+        XSegment { a: point(k), b: point(k + 2) }
+    });
+    if target.a == target.b || other.a == other.b {
+        return Told { answer: 4, ..Told::default() };
     }
+    let Some((kind, point, rounded)) = crossed(&target, &other) else {
+        return Told::default();
+    };
+    let (kind, mask) = match kind {
+        Kind::Pure => (1, 0),
+        Kind::TargetEnd => (2, 0),
+        Kind::OtherEnd => (3, 0),
+        Kind::Collinear(mask) => (4, mask.into()),
+    };
+    Told { answer: 0, kind, x: point.x.into(), y: point.y.into(), rounded: rounded.into(), mask }
 }

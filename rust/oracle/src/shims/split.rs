@@ -13,6 +13,7 @@ use crate::core::edge_data::OverlayEdgeData;
 use crate::core::integer::OverlayInt;
 use crate::core::solver::Solver;
 use crate::geom::x_segment::XSegment;
+use crate::int::point::IntPoint;
 use crate::segm::segment::Segment;
 use crate::segm::winding::WindingCount;
 use crate::{Cross, Kind};
@@ -162,12 +163,7 @@ fn refuse_if(number: u32, fault: bool) -> Result<(), u32> {
 /// How a pair crosses by the crate, with its marks.
 pub(crate) fn cross_pair(target: &XSegment<i32>, other: &XSegment<i32>, radius_squared: u64) -> Option<Cross> {
     let found = CrossSolver::<i32>::cross(target, other, radius_squared)?;
-    let kind = match found.cross_type {
-        CrossType::Pure => Kind::Pure,
-        CrossType::TargetEnd => Kind::TargetEnd,
-        CrossType::OtherEnd => Kind::OtherEnd,
-        CrossType::Overlay => Kind::Collinear(CrossSolver::<i32>::collinear(target, other)),
-    };
+    let kind = kind(&found.cross_type, target, other);
     let mut marks: Vec<LineMark<i32>> = Vec::new();
     let rounded = SplitSolver::<i32>::cross(0, 1, target, other, &mut marks, radius_squared);
     assert_eq!(rounded, found.is_round, "a pair says twice whether it was rounded");
@@ -175,7 +171,17 @@ pub(crate) fn cross_pair(target: &XSegment<i32>, other: &XSegment<i32>, radius_s
     Some(Cross { kind, point: (found.point.x, found.point.y), rounded, marks })
 }
 
-/// Whether a pair crosses by the crate.
-pub(crate) fn crosses(target: &XSegment<i32>, other: &XSegment<i32>) -> bool {
-    CrossSolver::<i32>::cross(target, other, RADIUS.into()).is_some()
+/// How a pair crosses by the crate, at the radius of the looks.
+pub(crate) fn crossed(target: &XSegment<i32>, other: &XSegment<i32>) -> Option<(Kind, IntPoint<i32>, bool)> {
+    let found = CrossSolver::<i32>::cross(target, other, RADIUS.into())?;
+    Some((kind(&found.cross_type, target, other), found.point, found.is_round))
+}
+
+fn kind(found: &CrossType, target: &XSegment<i32>, other: &XSegment<i32>) -> Kind {
+    match found {
+        CrossType::Pure => Kind::Pure,
+        CrossType::TargetEnd => Kind::TargetEnd,
+        CrossType::OtherEnd => Kind::OtherEnd,
+        CrossType::Overlay => Kind::Collinear(CrossSolver::<i32>::collinear(target, other)),
+    }
 }
