@@ -1,35 +1,23 @@
--- Where some end is within the radius, the nearest is: the definition's test of both reaches is one test of the lesser.
-use mathlib.Core.Path.{_≡_, refl}
-use mathlib.Core.Bool.{Bool, true, false, _||_}
-use Prim.Native.Nat.{ℕ, _≤_, _<_}
+-- An end is within the radius where the nearer one is.
+use mathlib.Core.Path.{_≡_, refl, sym}
+use mathlib.Core.Bool.{Bool, true, false}
+use Prim.Native.Nat.{ℕ, _≤_, _<_, min}
 use native.Mathlib.Omega.{arith}
 use lib.Dec.{leb}
 use borrow.Author.Tests.{le-leb, lt-leb, leb-true, leb-false}
 use Rattle.geom.specs.declared.Point.{Point}
 use Rattle.geom.specs.declared.Segment.{Segment}
-use Rattle.cross.specs.declared.answer.Kind.the-variants.{TargetEnd, OtherEnd}
-use Rattle.cross.specs.Cross.{reach, snapped}
-use Rattle.cross.specs.Middle.{endOf, taken}
+use Rattle.cross.specs.Cross.{far, reach}
 
-first : (r q d : ℕ) → r ≤ q → (leb r d || leb q d) ≡ leb r d
-first r q d h = go (leb r d) refl
-  where
-    go : (t : Bool) → leb r d ≡ t → (t || leb q d) ≡ t
-    go true e = refl
-    go false e = lt-leb q d (omega (arith, leb-false r d e))
+module _ (v : Segment) (p : Point) (radius : ℕ) {x : ℕ} (e : x ≡ far (v .a) p) where
+  pub first-near : x ≤ radius → leb (reach v p) radius ≡ true
+  unfolding reach
+  first-near h = le-leb (min (far (v .a) p) (far (v .b) p)) radius (omega arith)
 
-second : (r q d : ℕ) → q < r → (leb r d || leb q d) ≡ leb q d
-second r q d h = go (leb r d) refl
-  where
-    go : (t : Bool) → leb r d ≡ t → (t || leb q d) ≡ leb q d
-    go true e = rw (le-leb q d (omega (arith, leb-true r d e)))
-    go false e = refl
-
-module _ (radius : ℕ) (t o : Segment) (p : Point) where
-  pub at-target : reach t p ≤ reach o p → taken radius (endOf t p) TargetEnd p ≡ snapped radius t o p
-  unfolding taken snapped
-  at-target h = rw (first (reach t p) (reach o p) radius h, le-leb (reach t p) (reach o p) h)
-
-  pub at-other : reach o p < reach t p → taken radius (endOf o p) OtherEnd p ≡ snapped radius t o p
-  unfolding taken snapped
-  at-other h = rw (second (reach t p) (reach o p) radius h, lt-leb (reach t p) (reach o p) h)
+  pub second-near : {y : ℕ} → radius < x → y ≡ far (v .b) p → leb y radius ≡ leb (reach v p) radius
+  unfolding reach
+  second-near {y} h f = go (leb y radius) refl
+    where
+      go : (t : Bool) → leb y radius ≡ t → t ≡ leb (min (far (v .a) p) (far (v .b) p)) radius
+      go true g = sym (le-leb (min (far (v .a) p) (far (v .b) p)) radius (omega (arith, leb-true y radius g)))
+      go false g = sym (lt-leb (min (far (v .a) p) (far (v .b) p)) radius (omega (arith, leb-false y radius g)))

@@ -12,8 +12,7 @@ use Rattle.geom.specs.Plane.{sideOf}
 use Rattle.plane.specs.Apart.{o₁, o₂}
 use Rattle.plane.specs.Meeting.{Parted}
 use Rattle.cross.specs.declared.point.End.{End}
-use Rattle.cross.specs.declared.answer.Kind.{Kind}
-use Rattle.cross.specs.declared.answer.Kind.the-variants.{Pure}
+use Rattle.cross.specs.declared.answer.Kind.the-variants.{TargetEnd, OtherEnd}
 use Rattle.cross.specs.declared.answer.Crossing.{Crossing}
 use Rattle.cross.specs.Cross.{found, nearer, reach}
 
@@ -57,6 +56,6 @@ pub record Share (n d a : ℤ) : Type 0 where
 abbrev pub endOf : Segment → Point → End
 endOf v p = record { point = nearer v p; far = reach v p }
 
--- that end, if it is within the squared radius; otherwise the rounded point
-unfoldable pub taken : ℕ → End → Kind → Point → Crossing
-taken radius e k p = cond (leb (e .far) radius) (found (e .point) k true) (found p Pure true)
+-- the nearest of the four ends, target's on a tie
+abbrev pub nearestEnd : Segment → Segment → Point → Crossing
+nearestEnd t o p = cond (leb (reach t p) (reach o p)) (found (nearer t p) TargetEnd true) (found (nearer o p) OtherEnd true)

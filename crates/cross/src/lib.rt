@@ -2,10 +2,11 @@
 ghost use mathlib.Core.Path.{_≡_};
 ghost use mathlib.Core.Bool.{_&&_};
 ghost use Prim.Native.Nat.{_*_, _<_};
+ghost use lib.Dec.{leb};
 ghost use Rattle.geom.specs.Plane.{GridPoint, GridSegment, gridSegment};
-ghost use Rattle.cross.specs.Cross.{found as foundAt, inner as isInner, bit, collinearMask, onLine, onBoth, snapped as snappedBy, middle as middleBy, crossPoint, crossBy, crossing as crossingOf, hasLength, crossAny};
+ghost use Rattle.cross.specs.Cross.{found as foundAt, inner as isInner, bit, collinearMask, onLine, onBoth, reach, snapped as snappedBy, middle as middleBy, crossPoint, crossBy, crossing as crossingOf, hasLength, crossAny};
 ghost use Rattle.cross.specs.Said.{crossSays, crossSaid};
-ghost use Rattle.cross.specs.Middle.{Middle, Sides, taken as takenBy};
+ghost use Rattle.cross.specs.Middle.{Middle, Sides, nearestEnd};
 
 pub mod answer;
 mod point;
@@ -16,7 +17,6 @@ use answer::Kind;
 use geom::Coord;
 use geom::Point;
 use geom::Segment;
-use point::End;
 
 // p strictly between the ends of v, whichever comes first.
 fn inner(v: Segment, p: Point) -> bool
@@ -49,14 +49,20 @@ pub fn collinear(target: Segment, other: Segment) -> u8
     a + b + c + d
 }
 
-fn found(p: Point, kind: Kind, rounded: bool) -> Crossing
-    ensures { λ r. ⌜ r ≡ foundAt p kind rounded ⌝ }
+fn at(p: Point, kind: Kind, rounded: bool) -> Cross
+    ensures { λ r. ⌜ Crossing.Found r ≡ foundAt p kind rounded ⌝ }
 {
-    Crossing::Found(Cross {
+    Cross {
         point: p,
         kind,
         rounded,
-    })
+    }
+}
+
+fn found(p: Point, kind: Kind, rounded: bool) -> Crossing
+    ensures { λ r. ⌜ r ≡ foundAt p kind rounded ⌝ }
+{
+    Crossing::Found(at(p, kind, rounded))
 }
 
 fn on_line(v: Segment, p: Point) -> bool
@@ -67,29 +73,47 @@ fn on_line(v: Segment, p: Point) -> bool
     turns::side(v.a, v.b, p) == 1
 }
 
-// The end e, if p is within the radius of it.
-fn taken(e: End, kind: Kind, p: Point, radius: u64) -> Crossing
-    ensures { λ r. ⌜ r ≡ takenBy radius e kind p ⌝ }
+// Some end of v is within the radius of p.
+fn near(v: Segment, p: Point, radius: u64) -> bool
+    requires { ⌜ GridSegment v ⌝ }
+    requires { ⌜ GridPoint p ⌝ }
+    ensures { λ r. ⌜ r ≡ leb (reach v p) radius ⌝ }
 {
-    if e.far <= radius {
-        return found(e.point, kind, true);
+    if point::far(v.a, p) <= radius {
+        return true;
     }
-    found(p, Kind::Pure, true)
+    point::far(v.b, p) <= radius
 }
 
-// The nearest of the four ends is target's on a tie.
-fn snapped(target: Segment, other: Segment, p: Point, radius: u64) -> Crossing
+// The nearest of the four ends, target's on a tie.
+fn nearest_end(target: Segment, other: Segment, p: Point) -> Cross
     requires { ⌜ GridSegment target ⌝ }
     requires { ⌜ GridSegment other ⌝ }
     requires { ⌜ GridPoint p ⌝ }
-    ensures { λ r. ⌜ r ≡ snappedBy radius target other p ⌝ }
+    ensures { λ r. ⌜ Crossing.Found r ≡ nearestEnd target other p ⌝ }
 {
     let e = point::nearer(target, p);
     let f = point::nearer(other, p);
     if e.far <= f.far {
-        return taken(e, Kind::TargetEnd, p, radius);
+        return at(e.point, Kind::TargetEnd, true);
     }
-    taken(f, Kind::OtherEnd, p, radius)
+    at(f.point, Kind::OtherEnd, true)
+}
+
+// Most points are farther than the radius from all four ends and stay.
+fn snapped(target: Segment, other: Segment, p: Point, radius: u64) -> Cross
+    requires { ⌜ GridSegment target ⌝ }
+    requires { ⌜ GridSegment other ⌝ }
+    requires { ⌜ GridPoint p ⌝ }
+    ensures { λ r. ⌜ Crossing.Found r ≡ snappedBy radius target other p ⌝ }
+{
+    if near(target, p, radius) {
+        return nearest_end(target, other, p);
+    }
+    if near(other, p, radius) {
+        return nearest_end(target, other, p);
+    }
+    at(p, Kind::Pure, true)
 }
 
 fn on_both(target: Segment, other: Segment, p: Point) -> bool
@@ -105,15 +129,15 @@ fn on_both(target: Segment, other: Segment, p: Point) -> bool
 }
 
 // A middle crossing.
-fn middle(target: Segment, other: Segment, radius: u64) -> Crossing
+fn middle(target: Segment, other: Segment, radius: u64) -> Cross
     requires { ⌜ GridSegment target ⌝ }
     requires { ⌜ GridSegment other ⌝ }
     requires { ⌜ Middle target other ⌝ }
-    ensures { λ r. ⌜ r ≡ middleBy radius target other (crossPoint target other) ⌝ }
+    ensures { λ r. ⌜ Crossing.Found r ≡ middleBy radius target other (crossPoint target other) ⌝ }
 {
     let p = point::cross_point(target, other);
     if on_both(target, other, p) {
-        return found(p, Kind::Pure, false);
+        return at(p, Kind::Pure, false);
     }
     snapped(target, other, p, radius)
 }
@@ -162,7 +186,7 @@ fn by_sides(
     if s4 == 1 {
         return found(target.b, Kind::TargetEnd, false);
     }
-    middle(target, other, radius)
+    Crossing::Found(middle(target, other, radius))
 }
 
 // Of segments on the grid. Most pairs go no further than other's two ends on one side of target's line.

@@ -10,7 +10,6 @@ ghost use Rattle.cross.specs.Middle.{Middle, Cut, Share, signedAs, moved
 use geom::Coord;
 use geom::Point;
 use geom::Segment;
-use limbs::Division;
 
 // An end of a segment, and the squared distance of a point from it.
 pub(crate) struct End {
@@ -48,16 +47,12 @@ fn cut(n: i64, d: i64) -> i64
     n / d
 }
 
-// n * a / d to nearest, where n / d is between 0 and 1. The product needs two words; the quotient is no larger than a, so that there always is one.
+// n * a / d to nearest, where n / d is between 0 and 1. The product needs two words; the quotient is no larger than a.
 fn share(n: i64, d: i64, a: i64) -> i64
     requires { ⌜ Share n d a ⌝ }
     ensures { λ r. ⌜ r ≡ nearest (n *ℤ a) d ⌝ }
 {
-    let product = limbs::product(size(n), size(a));
-    let Division::Whole(q) = limbs::nearest(product, size(d)) else {
-        return 0;
-    };
-    signed(a, q)
+    signed(a, shares::share(size(n), size(d), size(a)))
 }
 
 fn moved(c: Coord, offset: i64) -> Coord
@@ -68,7 +63,7 @@ fn moved(c: Coord, offset: i64) -> Coord
 }
 
 // The squared distance.
-fn far(p: Point, q: Point) -> u64
+pub(crate) fn far(p: Point, q: Point) -> u64
     requires { ⌜ GridPoint p ⌝ }
     requires { ⌜ GridPoint q ⌝ }
     ensures { λ r. ⌜ r ≡ farOf p q ⌝ }

@@ -83,7 +83,7 @@ fn divide(n: Two, d: u64) -> Quotient
 }
 
 // What to multiply a divisor with to set its top bit.
-fn factor(d: u64) -> u64
+pub fn factor(d: u64) -> u64
     requires { ⌜ 0 < d ⌝ }
     ensures { λ r. ⌜ r ≡ 2 ^ leadingZeros 64 d ⌝ }
 {

@@ -31,14 +31,14 @@ module _ (radius : ℕ) (t o : Segment) {p : Point} {h : Bool} {r : Crossing} (e
   unfolding middle
   rounded g k = rw (← e, ← f, g) k
 
-found-requires : tie.Need-found-requires
-found-requires c κs = search needs
+at-requires : tie.Need-at-requires
+at-requires c κs = search needs
 
 returns : tie.Need-returns
 returns c =
     let b = c .before .before in
     let s = b .before .before .args in
-    exact (s .radius) (s .target) (s .other) (b .before .cross-point .ensures) (b .on-both .ensures) (c .before .if1 .taken) (c .found .ensures)
+    exact (s .radius) (s .target) (s .other) (b .before .cross-point .ensures) (b .on-both .ensures) (c .before .if1 .taken) (c .at .ensures)
 
 snapped-requires : tie.Need-snapped-requires
 snapped-requires c κs = let p = c .before .before in let g = p .before .pre in (g .0, (g .1 .0, grid p))
@@ -55,7 +55,7 @@ middle-spec =
     (tie.spec
     cross-point-requires
     on-both-requires
-    found-requires
+    at-requires
     returns
     snapped-requires
     returns-2)
