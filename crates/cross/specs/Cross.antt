@@ -8,6 +8,7 @@ use Rattle.geom.specs.declared.Point.{Point}
 use Rattle.geom.specs.declared.Segment.{Segment}
 use Rattle.geom.specs.Plane.{point, sameZ, samePoint, between, upright, gridSegment, against, sideOf}
 unfoldable pub use Rattle.plane.specs.Quotients.{nearest}
+unfoldable pub use Rattle.middles.specs.Point.{level, quotient, crossPoint, far, nearer, reach}
 use Rattle.cross.specs.declared.answer.Kind.{Kind}
 use Rattle.cross.specs.declared.answer.Kind.the-variants.{Pure, TargetEnd, OtherEnd, Overlay}
 use Rattle.cross.specs.declared.answer.Crossing.{Crossing}
@@ -29,22 +30,6 @@ bit t = cond t 1 0
 unfoldable pub collinearMask : Segment → Segment → ℕ
 collinearMask t o = bit (inner o (t .a)) + 2 * bit (inner o (t .b)) + 4 * bit (inner t (o .a)) + 8 * bit (inner t (o .b))
 
--- ---- the middle point
-
-unfoldable pub level : Segment → Bool
-level v = sameZ (v .a .y .0) (v .b .y .0)
-
--- cut toward zero for an upright or level target, otherwise to nearest, a half away from zero
-unfoldable pub quotient : Segment → ℤ → ℤ → ℤ
-quotient t n d = cond (upright t || level t) (quotZ n d) (nearest n d)
-
--- the lines meet at target.a + n / d (target.b - target.a), n and n - d being target's ends against other's line
-unfoldable pub crossPoint : Segment → Segment → Point
-crossPoint t o =
-    let n = against o (t .a) in
-    let d = n -ℤ against o (t .b) in
-    point (t .a .x .0 +ℤ quotient t (n *ℤ (t .b .x .0 -ℤ t .a .x .0)) d) (t .a .y .0 +ℤ quotient t (n *ℤ (t .b .y .0 -ℤ t .a .y .0)) d)
-
 -- ---- a middle crossing: exact, moved to an end, or rounded
 
 -- p lies on the line of v
@@ -53,18 +38,6 @@ onLine v p = eqb (natAbs (against v p)) 0
 
 unfoldable pub onBoth : Segment → Segment → Point → Bool
 onBoth t o p = onLine t p && onLine o p
-
--- the squared distance
-unfoldable pub far : Point → Point → ℕ
-far p q = natAbs (p .x .0 -ℤ q .x .0) * natAbs (p .x .0 -ℤ q .x .0) + natAbs (p .y .0 -ℤ q .y .0) * natAbs (p .y .0 -ℤ q .y .0)
-
--- the nearer end of v, b on a tie
-unfoldable pub nearer : Segment → Point → Point
-nearer v p = cond (ltb (far (v .a) p) (far (v .b) p)) (v .a) (v .b)
-
--- the squared distance to the nearer end
-unfoldable pub reach : Segment → Point → ℕ
-reach v p = min (far (v .a) p) (far (v .b) p)
 
 -- some end is within the radius: the nearest is taken, target's on a tie; otherwise the rounded point stays
 unfoldable pub snapped : ℕ → Segment → Segment → Point → Crossing

@@ -1,8 +1,6 @@
--- In reading order: how two segments cross, and that in document 01's numbers; a middle crossing, what the sides say, its point in both boxes, its sizes; what comes of a pair.
+-- In reading order: how two segments cross, and that in document 01's numbers; a middle crossing, what the sides say; what comes of a pair.
 pub mod Cross
 pub mod Said
 pub mod Middle
 pub mod Sides
-pub mod Boxes
-pub mod Sizes
 pub mod Outcome

@@ -24,7 +24,7 @@ use Rattle.cross.specs.declared.answer.Kind.the-variants.{Pure, TargetEn
 use Rattle.cross.specs.Cross.{found, onLine, onBoth, far, nearer, reach, snapped, middle, crossPoint, zero, origin, crossBy, crossing}
 use Rattle.cross.specs.Middle.{Middle, Sides}
 use Rattle.cross.specs.Sides.{ends, middle-of}
-use Rattle.cross.specs.Boxes.{middle-on-grid}
+use Rattle.middles.specs.Boxes.{middle-on-grid}
 
 -- ---- where a mark can be: at an end of either, or at the middle point
 

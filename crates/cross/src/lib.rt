@@ -9,7 +9,6 @@ ghost use Rattle.cross.specs.Said.{crossSays, crossSaid};
 ghost use Rattle.cross.specs.Middle.{Middle, Sides, nearestEnd};
 
 pub mod answer;
-mod point;
 
 use answer::Cross;
 use answer::Crossing;
@@ -79,10 +78,10 @@ fn near(v: Segment, p: Point, radius: u64) -> bool
     requires { ⌜ GridPoint p ⌝ }
     ensures { λ r. ⌜ r ≡ leb (reach v p) radius ⌝ }
 {
-    if point::far(v.a, p) <= radius {
+    if middles::far(v.a, p) <= radius {
         return true;
     }
-    point::far(v.b, p) <= radius
+    middles::far(v.b, p) <= radius
 }
 
 // The nearest of the four ends, target's on a tie.
@@ -92,8 +91,8 @@ fn nearest_end(target: Segment, other: Segment, p: Point) -> Cross
     requires { ⌜ GridPoint p ⌝ }
     ensures { λ r. ⌜ Crossing.Found r ≡ nearestEnd target other p ⌝ }
 {
-    let e = point::nearer(target, p);
-    let f = point::nearer(other, p);
+    let e = middles::nearer(target, p);
+    let f = middles::nearer(other, p);
     if e.far <= f.far {
         return at(e.point, Kind::TargetEnd, true);
     }
@@ -135,7 +134,7 @@ fn middle(target: Segment, other: Segment, radius: u64) -> Cross
     requires { ⌜ Middle target other ⌝ }
     ensures { λ r. ⌜ Crossing.Found r ≡ middleBy radius target other (crossPoint target other) ⌝ }
 {
-    let p = point::cross_point(target, other);
+    let p = middles::cross_point(target, other);
     if on_both(target, other, p) {
         return at(p, Kind::Pure, false);
     }

@@ -9,7 +9,7 @@ use Rattle.geom.specs.Plane.{GridPoint}
 use Rattle.cross.specs.declared.answer.Crossing.{Crossing}
 use Rattle.cross.specs.declared.answer.Kind.the-variants.{Pure}
 use Rattle.cross.specs.Cross.{found, crossPoint, onBoth, snapped, middle}
-use Rattle.cross.specs.Boxes.{middle-on-grid}
+use Rattle.middles.specs.Boxes.{middle-on-grid}
 use Rattle.cross.proofs.middle.Statement.{statement}
 use Rattle.cross.proofs.middle.Tie as tie
 

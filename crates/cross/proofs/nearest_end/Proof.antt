@@ -8,9 +8,10 @@ use Rattle.geom.specs.declared.Point.{Point}
 use Rattle.geom.specs.declared.Segment.{Segment}
 use Rattle.cross.specs.declared.answer.Crossing.{Crossing}
 use Rattle.cross.specs.declared.answer.Kind.the-variants.{TargetEnd, OtherEnd}
-use Rattle.cross.specs.declared.point.End.{End}
+use Rattle.middles.specs.declared.End.{End}
+use Rattle.middles.specs.Middle.{endOf}
 use Rattle.cross.specs.Cross.{found, reach}
-use Rattle.cross.specs.Middle.{endOf, nearestEnd}
+use Rattle.cross.specs.Middle.{nearestEnd}
 use Rattle.cross.proofs.nearest_end.Statement.{statement}
 use Rattle.cross.proofs.nearest_end.Tie as tie
 
