@@ -1,16 +1,16 @@
 -- What the sides say: on a line where the side is 1; nothing where both ends of other lie on one side of target's line; a middle crossing where no end
 -- lies on the other's line and the sides of each couple differ.
 use mathlib.Core.Path.{_≡_, refl, sym, subst}
-use mathlib.Core.Bool.{false, cond}
+use mathlib.Core.Bool.{Bool, true, false, cond, _&&_}
 use mathlib.Core.Logic.{_≢_, inl, inr}
-use Prim.Native.Nat.{ℕ, _+_, _%_, _≤_}
+use Prim.Native.Nat.{ℕ, _+_, _≤_}
 use native.Mathlib.Omega.{arith}
 use lib.Dec.{ltb, eqb}
 use lib.IntN.{ℤ, natAbs}
-use borrow.Author.Tests.{eq-eqb, ne-eqb, le-ltb}
+use borrow.Author.Tests.{eq-eqb, ne-eqb, le-ltb, eqb-true}
 use Rattle.whole.specs.Order.{zz, split}
 use Rattle.whole.specs.Sign.{abs-is}
-use Rattle.whole.specs.Test.{or-true}
+use Rattle.whole.specs.Test.{and-l, and-r, or-true}
 use Rattle.geom.specs.declared.Point.{Point}
 use Rattle.geom.specs.declared.Segment.{Segment}
 use Rattle.geom.specs.Plane.{signOf, sideOf, against}
@@ -19,7 +19,7 @@ use Rattle.plane.specs.Meeting.{Sign, under, level, over, sign, Parted}
 use Rattle.cross.specs.declared.answer.Crossing.{Crossing}
 use Rattle.cross.specs.declared.answer.Crossing.the-variants.{Nothing}
 use Rattle.cross.specs.declared.answer.Kind.the-variants.{TargetEnd, OtherEnd}
-use Rattle.cross.specs.Cross.{found, zero, onLine, crossPoint, middle, crossBy}
+use Rattle.cross.specs.Cross.{found, zero, onLine, crossPoint, middle, crossBy, crossing}
 use Rattle.cross.specs.Middle.{Middle, Sides}
 
 -- ---- on a line
@@ -49,13 +49,23 @@ by-ends radius t o s1 s2 s3 s4 n l h k =
     let zeros = zero s1 + zero s2 + zero s3 + zero s4 in
     rw (ne-eqb zeros 4 n, le-ltb 1 zeros l, ne-eqb s1 s2 h, ne-eqb s3 s4 k)
 
--- ---- both ends of other on one side
+-- ---- both ends of other on one side, and neither on the line
 
-pub one-side : (radius : ℕ) (t o : Segment) (s1 s2 s3 s4 : ℕ) → s1 ≡ s2 → s1 % 2 ≡ 0 → crossBy radius t o s1 s2 s3 s4 ≡ Nothing
+unfoldable pub beside : Segment → Segment → Bool
+beside t o = eqb (sideOf (t .a) (t .b) (o .a)) (sideOf (t .a) (t .b) (o .b)) && eqb (zero (sideOf (t .a) (t .b) (o .a))) 0
+
+equal-signs : (radius : ℕ) (t o : Segment) (s1 s2 s3 s4 : ℕ) → s1 ≡ s2 → zero s1 ≡ 0 → crossBy radius t o s1 s2 s3 s4 ≡ Nothing
 unfolding crossBy
-one-side radius t o s1 s2 s3 s4 h k =
+equal-signs radius t o s1 s2 s3 s4 h k =
     let few : zero s1 + zero s2 + zero s3 + zero s4 ≢ 4 = λ e. omega arith in
     rw (ne-eqb (zero s1 + zero s2 + zero s3 + zero s4) 4 few, eq-eqb s1 s2 h, or-true (ltb 1 (zero s1 + zero s2 + zero s3 + zero s4)))
+
+pub one-side : (radius : ℕ) (t o : Segment) → beside t o ≡ true → crossing radius t o ≡ Nothing
+unfolding beside crossing
+one-side radius t o e =
+    let s1 = sideOf (t .a) (t .b) (o .a) in
+    let s2 = sideOf (t .a) (t .b) (o .b) in
+    equal-signs radius t o s1 s2 (sideOf (o .a) (o .b) (t .a)) (sideOf (o .a) (o .b) (t .b)) (eqb-true s1 s2 (and-l (eqb s1 s2) (eqb (zero s1) 0) e)) (eqb-true (zero s1) 0 (and-r (eqb s1 s2) (eqb (zero s1) 0) e))
 
 -- ---- no end on the other's line, and the sides of each couple differ
 

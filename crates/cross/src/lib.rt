@@ -7,6 +7,7 @@ ghost use Rattle.geom.specs.Plane.{GridPoint, GridSegment, gridSegment};
 ghost use Rattle.cross.specs.Cross.{found as foundAt, inner as isInner, bit, collinearMask, onLine, onBoth, reach, snapped as snappedBy, middle as middleBy, crossPoint, crossBy, crossing as crossingOf, hasLength, crossAny};
 ghost use Rattle.cross.specs.Said.{crossSays, crossSaid};
 ghost use Rattle.cross.specs.Middle.{Middle, Sides, nearestEnd};
+ghost use Rattle.cross.specs.Sides.{beside};
 
 pub mod answer;
 
@@ -188,19 +189,31 @@ fn by_sides(
     Crossing::Found(middle(target, other, radius))
 }
 
-// Of segments on the grid. Most pairs go no further than other's two ends on one side of target's line.
+// Both ends of other lie on one side of target's line, and neither on it: most pairs. Such a pair makes nothing.
+pub fn one_side(target: Segment, other: Segment) -> bool
+    requires { ⌜ GridSegment target ⌝ }
+    requires { ⌜ GridSegment other ⌝ }
+    ensures { λ r. ⌜ r ≡ beside target other ⌝ }
+{
+    let s1 = turns::side(target.a, target.b, other.a);
+    let s2 = turns::side(target.a, target.b, other.b);
+    if s1 == s2 {
+        return s1 % 2 == 0;
+    }
+    false
+}
+
+// Of segments on the grid.
 pub fn crossing(target: Segment, other: Segment, radius: u64) -> Crossing
     requires { ⌜ GridSegment target ⌝ }
     requires { ⌜ GridSegment other ⌝ }
     ensures { λ r. ⌜ r ≡ crossingOf radius target other ⌝ }
 {
+    if one_side(target, other) {
+        return Crossing::Nothing;
+    }
     let s1 = turns::side(target.a, target.b, other.a);
     let s2 = turns::side(target.a, target.b, other.b);
-    if s1 == s2 {
-        if s1 % 2 == 0 {
-            return Crossing::Nothing;
-        }
-    }
     let s3 = turns::side(other.a, other.b, target.a);
     let s4 = turns::side(other.a, other.b, target.b);
     by_sides(target, other, s1, s2, s3, s4, radius)

@@ -1,26 +1,25 @@
--- `cross::crossing` meets its contract: both ends of other on one side of target's line make nothing, whatever the other two sides are.
-use mathlib.Core.Path.{sym}
+-- `cross::crossing` meets its contract: both ends of other on one side of target's line make nothing, and the rest is by the four sides.
+use mathlib.Core.Path.{sym, _∙_}
 use borrow.Author.Needs.{needs}
-use Rattle.geom.specs.Plane.{sideOf}
 use Rattle.cross.specs.Cross.{crossing}
 use Rattle.cross.specs.Sides.{one-side}
 use Rattle.cross.proofs.crossing.Statement.{statement}
 use Rattle.cross.proofs.crossing.Tie as tie
+
+one-side-requires : tie.Need-one-side-requires
+one-side-requires c κs = search needs
+
+returns : tie.Need-returns
+returns c =
+    let o = c .before in
+    let s = o .before .args in
+    sym (one-side (s .radius) (s .target) (s .other) (sym (o .one-side .ensures) ∙ c .if1 .taken))
 
 side-requires : tie.Need-side-requires
 side-requires c κs = search needs
 
 side-requires-2 : tie.Need-side-requires-2
 side-requires-2 c κs = search needs
-
-returns : tie.Need-returns
-unfolding crossing
-returns c =
-    let d2 = c .before .before in
-    let d1 = d2 .before in
-    let s = d1 .before .args in
-    rw (← d1 .side .ensures, ← d2 .side2 .ensures)
-    (sym (one-side (s .radius) (s .target) (s .other) (d1 .side .result) (d2 .side2 .result) (sideOf (s .other .a) (s .other .b) (s .target .a)) (sideOf (s .other .a) (s .other .b) (s .target .b)) (c .before .if1 .taken) (c .if2 .taken)))
 
 side-requires-3 : tie.Need-side-requires-3
 side-requires-3 c κs = search needs
@@ -36,7 +35,7 @@ unfolding crossing
 returns-2 c =
     let d4 = c .before in
     let d3 = d4 .before in
-    let d2 = d3 .before .before in
+    let d2 = d3 .before in
     let d1 = d2 .before in
     rw (← d1 .side .ensures, ← d2 .side2 .ensures, ← d3 .side3 .ensures, ← d4 .side4 .ensures) (c .by-sides .ensures)
 
@@ -44,9 +43,10 @@ pub crossing-spec : {M : Type 1} → statement M
 crossing-spec =
     tie.close
     (tie.spec
+    one-side-requires
+    returns
     side-requires
     side-requires-2
-    returns
     side-requires-3
     side-requires-4
     by-sides-requires
