@@ -70,8 +70,33 @@ fn pairs(work: &[i32], n: usize, radius: u64, marks: &mut [i32]) -> Looked
     Looked::Marks(count)
 }
 
-// The marks of one pair come to a list that holds `count`.
+// The marks of one pair come to a list that holds `count`. Most pairs end at the first test.
 fn pair(
+    i: usize,
+    j: usize,
+    target: Segment,
+    other: Segment,
+    radius: u64,
+    marks: &mut [i32],
+    room: usize,
+    count: usize,
+) -> usize
+    requires { ⌜ GridSegment target ⌝ }
+    requires { ⌜ GridSegment other ⌝ }
+    requires { ⌜ 3 * room ≤ length (now marks) ⌝ }
+    requires { ⌜ count ≤ room ⌝ }
+    requires { ⌜ i < 2 ^ 31 ⌝ }
+    requires { ⌜ j < 2 ^ 31 ⌝ }
+    ensures { λ r. ⌜ Added markRows room count (now (marks .entry)) (pairMarks radius i j target other) r (now (marks .exit)) ⌝ }
+{
+    if cross::one_side(target, other) {
+        return count;
+    }
+    crossed(i, j, target, other, radius, marks, room, count)
+}
+
+// The marks of a pair by its crossing.
+fn crossed(
     i: usize,
     j: usize,
     target: Segment,
