@@ -1,9 +1,3 @@
--- In reading order: what each step keeps of the list; the marks of a look are in order; joining; splitting; a look; the looks within the budget; how a run ends.
-pub mod Sound
-pub mod Order
-pub mod Joining
-pub mod Cutting
-pub mod Looking
-pub mod Budget
-pub mod Endings
+-- In reading order: how a run starts, and how it ends.
 pub mod Starting
+pub mod Endings

@@ -27,9 +27,9 @@ use Rattle.overlay.specs.declared.answer.Answer.the-variants.{TooBig as Big}
 use Rattle.overlay.specs.Looks.{Ran, settled, refused, joined, ran}
 use Rattle.overlay.specs.Outcome.{finished, swept}
 use Rattle.run.specs.Lent.{lent}
-use Rattle.run.specs.Step.{looksAllowed}
-use Rattle.run.proofs.Sound.{clear, turned-good}
-use Rattle.run.proofs.Joining.{Merges, is-joined, is-big}
+use Rattle.settle.specs.Step.{looksAllowed}
+use Rattle.settle.proofs.Sound.{clear, turned-good}
+use Rattle.settle.proofs.Joining.{Merges, is-joined, is-big}
 
 module _ (input : List ℤ) (s : Settings) (work masks : ℕ) (ok : faultOf input s work masks ≡ Sound) where
   abbrev L : List Segment

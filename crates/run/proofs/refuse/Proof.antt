@@ -23,7 +23,7 @@ returns c =
     let marks = c .before .before .before .before .before .before .before .before in
     let scan = c .before .before .before .before .before in
     let x = work .before .before .before .args in
-    all-cleared (lent (x .work .now) (x .marks .now) (x .scan .now) (x .masks .now)) (x .a) (cc (work .clear-i32 .ensures)) (cc (marks .clear-i322 .ensures)) (cc (scan .clear-i64 .ensures)) (cc (c .before .before .clear-u8 .ensures))
+    all-cleared (lent (x .work .now) (x .marks .now) (x .scan .now) (x .masks .now)) (x .a) (work .clear-i32 .ensures) (marks .clear-i322 .ensures) (scan .clear-i64 .ensures) (c .before .before .clear-u8 .ensures)
 
 same-length : tie.Need-same-length
 same-length c = search needs

@@ -12,11 +12,11 @@ use Rattle.split.specs.Look.{look, tidy}
 use Rattle.apply.specs.declared.Applied.the-variants.{Pieces}
 use Rattle.apply.specs.Answer.{applyAnswer, applyList}
 use Rattle.overlay.specs.Looks.{radius}
-use Rattle.run.specs.Step.{goesOn, StillKept}
-use Rattle.run.proofs.Cutting.{Tidy, Split, is-distinct, is-tidy, never-short, is-split, is-full, refuses-8, goes-on, refuses-9}
+use Rattle.settle.specs.Step.{goesOn, StillKept}
+use Rattle.settle.proofs.Cutting.{Tidy, Split, is-distinct, is-tidy, never-short, is-split, is-full, refuses-8, goes-on, refuses-9}
 use borrow.Author.Needs.{needs}
-use Rattle.run.proofs.cut.Statement.{statement}
-use Rattle.run.proofs.cut.Tie as tie
+use Rattle.settle.proofs.cut.Statement.{statement}
+use Rattle.settle.proofs.cut.Tie as tie
 
 module _ (c : tie.Start) where
   abbrev xs : List ℤ

@@ -39,11 +39,11 @@ use Rattle.overlay.specs.declared.answer.Answer.the-variants.{WorkFull, TooBig 
 use Rattle.overlay.specs.Looks.{Ran, refused, radius, joined}
 use Rattle.demands.specs.Chain.{cut}
 use Rattle.demands.specs.Pieces.{cut-is-good}
-use Rattle.run.specs.Kept.{Kept, Marked}
-use Rattle.run.specs.Step.{splitAt}
-use Rattle.run.proofs.Sound.{clear, sound-near}
-use Rattle.run.proofs.Joining.{is-joined, is-big}
-use Rattle.run.proofs.Order.{tidy-in-order}
+use Rattle.settle.specs.Kept.{Kept, Marked}
+use Rattle.settle.specs.Step.{splitAt}
+use Rattle.settle.proofs.Sound.{clear, sound-near}
+use Rattle.settle.proofs.Joining.{is-joined, is-big}
+use Rattle.settle.proofs.Order.{tidy-in-order}
 
 -- ---- tidying
 

@@ -3,12 +3,12 @@ use mathlib.Core.Path.{_∙_, subst}
 use mathlib.Core.List.{List}
 use native.Mathlib.Omega.{arith}
 use lib.IntN.{ℤ}
-use Rattle.run.specs.Kept.{Kept}
-use Rattle.run.specs.Step.{goesOn, StillKept}
-use Rattle.run.proofs.Looking.{Found, found, is-marked, no-rows, refuses-7, settles, refuses-10, splits}
+use Rattle.settle.specs.Kept.{Kept}
+use Rattle.settle.specs.Step.{goesOn, StillKept}
+use Rattle.settle.proofs.Looking.{Found, found, is-marked, no-rows, refuses-7, settles, refuses-10, splits}
 use borrow.Author.Needs.{needs}
-use Rattle.run.proofs.advance.Statement.{statement}
-use Rattle.run.proofs.advance.Tie as tie
+use Rattle.settle.proofs.advance.Statement.{statement}
+use Rattle.settle.proofs.advance.Tie as tie
 
 module _ (c : tie.Start) where
   abbrev xs : List ℤ

@@ -27,9 +27,9 @@ use Rattle.split.specs.Looked.{counted, lookAnswer, lookList}
 use Rattle.split.proofs.answer.Looked.{the-type}
 use Rattle.overlay.specs.declared.answer.Answer.the-variants.{MarksFull as Full, Unsettled}
 use Rattle.overlay.specs.Looks.{Ran, settled, refused, radius, lookAt}
-use Rattle.run.specs.Kept.{Kept, Marked}
-use Rattle.run.specs.Step.{splitAt}
-use Rattle.run.proofs.Sound.{clear, sound-on, sound-long}
+use Rattle.settle.specs.Kept.{Kept, Marked}
+use Rattle.settle.specs.Step.{splitAt}
+use Rattle.settle.proofs.Sound.{clear, sound-on, sound-long}
 
 of-marks : (b : Bool) (n : ℕ) {k : ℕ} → cond b MarksFull (Marks n) ≡ Marks k → (b ≡ false) × (k ≡ n)
 of-marks true n h = absurd (let z : _≡_ {A = ℕ} 0 1 = cc in omega arith)

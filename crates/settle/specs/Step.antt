@@ -12,9 +12,9 @@ use Rattle.split.specs.Look.{look, tidy}
 use Rattle.overlay.specs.declared.answer.Answer.the-variants.{WorkFull, Unsettled}
 use Rattle.overlay.specs.Looks.{Ran, settled, refused, radius, joined, looksFrom}
 use Rattle.demands.specs.Chain.{cut}
-use Rattle.run.specs.declared.Step.{Step}
-use Rattle.run.specs.declared.Step.the-variants.{Next, Settled, Refused}
-use Rattle.run.specs.Kept.{Kept}
+use Rattle.settle.specs.declared.Step.{Step}
+use Rattle.settle.specs.declared.Step.the-variants.{Next, Settled, Refused}
+use Rattle.settle.specs.Kept.{Kept}
 
 -- the run that goes on as `next` with the first k rows, or has ended with them, or is refused
 unfoldable pub goesOn : (List Segment → Ran) → List ℤ → Step → Ran

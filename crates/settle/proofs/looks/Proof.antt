@@ -11,12 +11,12 @@ use Rattle.whole.specs.Kind.{rowsFrom}
 use Rattle.geom.specs.Limits.{workRoom, markRoom}
 use Rattle.geom.specs.Rows.{segments}
 use Rattle.overlay.specs.Looks.{Ran, lookAt}
-use Rattle.run.specs.declared.Step.{Step}
-use Rattle.run.specs.Kept.{Kept}
-use Rattle.run.specs.Step.{goesOn, StillKept, looksAllowed}
-use Rattle.run.proofs.Budget.{allowed-next}
-use Rattle.run.proofs.looks.Statement.{statement}
-use Rattle.run.proofs.looks.Tie as tie
+use Rattle.settle.specs.declared.Step.{Step}
+use Rattle.settle.specs.Kept.{Kept}
+use Rattle.settle.specs.Step.{goesOn, StillKept, looksAllowed}
+use Rattle.settle.proofs.Budget.{allowed-next}
+use Rattle.settle.proofs.looks.Statement.{statement}
+use Rattle.settle.proofs.looks.Tie as tie
 
 -- what the looks come to, from so many rows and with so many looks left
 abbrev comes : List ℤ → List ℤ → ℕ → ℕ → List ℤ → ℕ → Ran

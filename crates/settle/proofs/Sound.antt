@@ -17,7 +17,7 @@ use Rattle.segm.specs.Merge.{merged, tooBig}
 use Rattle.segm.specs.MergeLaws.{merged-ends, merged-near}
 use Rattle.checks.specs.Checks.{some, isOff, isPoint, hasLeast}
 use Rattle.demands.specs.Pieces.{Good}
-use Rattle.run.specs.Kept.{Sound}
+use Rattle.settle.specs.Kept.{Sound}
 
 abbrev Ends : Point → Point → Type 0
 Ends p q = GridPoint p × GridPoint q × Before p q

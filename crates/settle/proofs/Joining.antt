@@ -20,8 +20,8 @@ use Rattle.steps.specs.declared.Joined.{Joined}
 use Rattle.steps.specs.declared.Joined.the-variants.{Rows, TooBig}
 use Rattle.steps.specs.Joining.{joinAnswer, joinList}
 use Rattle.demands.specs.Pieces.{Good}
-use Rattle.run.specs.Kept.{Kept}
-use Rattle.run.proofs.Sound.{joined-sound}
+use Rattle.settle.specs.Kept.{Kept}
+use Rattle.settle.proofs.Sound.{joined-sound}
 
 of-rows : (b : Bool) (k : ℕ) {p : ℕ} → cond b TooBig (Rows k) ≡ Rows p → (b ≡ false) × (p ≡ k)
 of-rows true k h = absurd (let z : _≡_ {A = ℕ} 0 1 = cc in omega arith)

@@ -10,7 +10,7 @@ use borrow.Author.Tests.{eq-eqb, ne-eqb}
 use Rattle.whole.specs.Total.{same-or}
 use Rattle.geom.specs.declared.Segment.{Segment}
 use Rattle.overlay.specs.Looks.{lookAt, looksFrom}
-use Rattle.run.specs.Step.{looksAllowed}
+use Rattle.settle.specs.Step.{looksAllowed}
 
 module _ (marks work : ℕ) where
   allowed-step : (left made : ℕ) (L : List Segment) → looksAllowed marks work (suc left) made L ≡ lookAt marks work (eqb left 0) made L (looksAllowed marks work left (suc made))
