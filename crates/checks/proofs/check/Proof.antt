@@ -1,12 +1,13 @@
 -- `checks::check` meets its contract: each test is one of the definition, and what the first one settles is what the others require.
 use mathlib.Core.Path.{_≡_, sym, _∙_}
-use mathlib.Core.Bool.{false}
+use mathlib.Core.Bool.{false, cond}
 use mathlib.Core.List.{List}
 use lib.ListN.{length}
 use borrow.Author.Needs.{needs}
 use Rattle.whole.specs.Kind.{rowsFrom}
 use Rattle.geom.specs.declared.Segment.{Segment}
 use Rattle.geom.specs.Rows.{segments}
+use Rattle.checks.specs.declared.Fault.the-variants.{Sound, Open}
 use Rattle.checks.specs.Checks.{isShort, isBad, some, isOff, isPoint, hasLeast, faultOf}
 use Rattle.checks.specs.Exactly.{also-said}
 use Rattle.checks.specs.Accepted.{Roomy, roomy-when}
@@ -50,6 +51,17 @@ none-least c = sym (c .before .some-fault3 .ensures) ∙ c .if5 .left
 
 room : (c : tie.Else1) → Roomy (start1 c .args .settings .n) (length (start1 c .args .input .now)) (start1 c .args .work) (start1 c .args .masks)
 room c = roomy-when _ _ _ _ (not-short c)
+
+-- once five tests are passed, the sixth decides
+open-decides : (c : tie.After-some-open) → let x = start5 (c .before) .args in faultOf (x .input .now) (x .settings) (x .work) (x .masks) ≡ cond (c .some-open .result) Open Sound
+unfolding faultOf
+open-decides c =
+    let i = c .before in
+    let h = i .before .before in
+    let g = h .before .before in
+    let f = g .before .before in
+    let e = f .before .before in
+    rw (not-short e, not-bad f, none-off g, none-point h, none-least i, sym (c .some-open .ensures))
 
 -- ---- the needs
 
@@ -104,24 +116,10 @@ some-open-requires : tie.Need-some-open-requires
 some-open-requires c κs = let r = room (c .before .before .before .before .before .before .before .before) in (r .limited, r .rows)
 
 returns-6 : tie.Need-returns-6
-unfolding faultOf
-returns-6 c =
-    let i = c .before .before in
-    let h = i .before .before in
-    let g = h .before .before in
-    let f = g .before .before in
-    let e = f .before .before in
-    also-said _ _ _ _ (rw (not-short e, not-bad f, none-off g, none-point h, none-least i, sym (c .before .some-open .ensures) ∙ c .if6 .taken))
+returns-6 c = also-said _ _ _ _ (sym (open-decides (c .before) ∙ rw (c .if6 .taken)))
 
 returns-7 : tie.Need-returns-7
-unfolding faultOf
-returns-7 c =
-    let i = c .before .before in
-    let h = i .before .before in
-    let g = h .before .before in
-    let f = g .before .before in
-    let e = f .before .before in
-    also-said _ _ _ _ (rw (not-short e, not-bad f, none-off g, none-point h, none-least i, sym (c .before .some-open .ensures) ∙ c .if6 .left))
+returns-7 c = also-said _ _ _ _ (sym (open-decides (c .before) ∙ rw (c .if6 .left)))
 
 pub check-spec : {M : Type 1} → statement M
 check-spec =
