@@ -1,5 +1,6 @@
 -- At a node of a list in order those entries that stay and those that come are what is live of the whole list.
 use mathlib.Core.Path.{_≡_, sym, ap, _∙_}
+use mathlib.Core.Bool.{Bool}
 use mathlib.Core.List.{List, _++_, append-nil}
 use mathlib.Core.Logic.{⊎-elim}
 use Prim.Native.Nat.{ℕ, _+_, _-_, _≤_, _<_}
@@ -13,9 +14,11 @@ use Rattle.geom.specs.declared.Segment.{Segment}
 use Rattle.geom.specs.Plane.{Before}
 use Rattle.geom.specs.Rows.{segments}
 use Rattle.scan.specs.declared.list.Entry.{Entry}
+use Rattle.scan.specs.declared.nodes.Node.{Node}
 use Rattle.scan.specs.Masks.{live}
-use Rattle.scan.specs.Scan.{segmentAt, entriesFrom, liveAt}
-use Rattle.build.specs.Sweep.{NodeEnd}
+use Rattle.scan.specs.Scan.{segmentAt, entriesFrom, liveAt, stays, arrivals, Known, Reached, Holds}
+use Rattle.build.specs.Sweep.{NodeEnd, Ready}
+use Rattle.scan.proofs.Walking.{reached}
 use Rattle.scan.proofs.Entries.{keep-append, keep-none, keep-keep, entries-append, all-entries}
 use Rattle.build.proofs.Order.{Upto, here, before-upto, strictly, not-yet, still, Sorted}
 
@@ -70,3 +73,12 @@ module _ (work : List ℤ) (n : ℕ) where
         let q = segmentAt work m .a in
         ap (keep (liveAt work q)) (sym first)
         ∙ keep-keep (liveAt work q) (liveAt work p) (all-entries work 0 r (λ k a b. still q p (segmentAt work k) (begun k (omega arith)) (s .each i m (omega (arith, d .after)) l)))
+
+-- and what the node knows is right for each segment that starts there
+pub node-ready : (work : List ℤ) (n : ℕ) (l : List Entry) (sorted : Bool) {room i m : ℕ} {xs ys : List ℤ} {node : Node} → NodeEnd work n i m
+    → Holds room xs (arrivals work n sorted l i m (segmentAt work i .a)) (node .used) ys → Known work (segmentAt work i .a) (stays work sorted l (segmentAt work i .a)) (node .known) (node .sums)
+    → node .used ≤ room → Ready work ys node i m
+node-ready work n l sorted {room} {i} {m} {xs} {ys} {node} d h k f = record { within = at i (omega arith) (d .after) .1; each = λ j p q. at j p q .0 }
+  where
+    at : (j : ℕ) → i ≤ j → j < m → Reached work (segmentAt work j) ys (node .known) (node .sums) × (node .known ≤ node .used)
+    at j p q = reached work (segmentAt work j) (d .same j p q) n l i m sorted h k f

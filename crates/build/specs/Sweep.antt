@@ -9,8 +9,9 @@ use lib.Seq.{sets}
 use Rattle.geom.specs.declared.Segment.{Segment}
 use Rattle.geom.specs.Plane.{before, samePoint}
 use Rattle.scan.specs.declared.list.Entry.{Entry}
+use Rattle.scan.specs.declared.nodes.Node.{Node}
 use Rattle.scan.specs.Masks.{bytes, crowded}
-use Rattle.scan.specs.Scan.{segmentAt, sumsOf, byteBy}
+use Rattle.scan.specs.Scan.{segmentAt, sumsOf, Reached, byteBy}
 
 -- no segment starts before the one that stands before it
 unfoldable pub ordered : List Segment → Bool
@@ -24,6 +25,11 @@ pub record NodeEnd (work : List ℤ) (n i r : ℕ) : Type 0 where
   pub within : r ≤ n
   pub same : (k : ℕ) → i ≤ k → k < r → segmentAt work i .a ≡ segmentAt work k .a
   pub next : r < n → samePoint (segmentAt work i .a) (segmentAt work r .a) ≡ false
+
+-- what a node knows is right for each of its segments, from i to e
+pub record Ready (work scan : List ℤ) (node : Node) (i e : ℕ) : Type 0 where
+  pub within : node .known ≤ node .used
+  pub each : (k : ℕ) → i ≤ k → k < e → Reached work (segmentAt work k) scan (node .known) (node .sums)
 
 -- the bytes of edges by the entries in use
 abbrev pub bytesBy : ℕ → ℕ → List ℤ → List Entry → List Segment → List ℕ

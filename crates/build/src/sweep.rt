@@ -8,8 +8,9 @@ ghost use Rattle.whole.specs.Sum.{All};
 ghost use Rattle.geom.specs.Limits.{scanRoom};
 ghost use Rattle.geom.specs.Rows.{segments};
 ghost use Rattle.scan.specs.Scan.{entries, EntryOf, OnGrids};
-ghost use Rattle.build.specs.Sweep.{ordered, NodeEnd, bytesBy, Swept};
+ghost use Rattle.build.specs.Sweep.{ordered, NodeEnd, Ready, bytesBy, Swept};
 ghost use Rattle.build.specs.Fill.{fillSays, fillSaid};
+use scan::nodes::Node;
 
 pub enum Filled {
     // 0: the masks hold the bytes.
@@ -78,11 +79,12 @@ fn sweep(work: &[i32], n: usize, fill: u32, rule: u32, scan: &mut [i64], masks: 
     while i < n {
         let e = node_end(work, n, i);
         let v = geom::read(work, i);
-        used = scan::list::arrive(work, n, scan, room, used, i, e, v.a, sorted);
+        let node = scan::nodes::arrive(work, n, scan, room, used, i, e, v.a, sorted);
+        used = node.used;
         if room < used {
             return true;
         }
-        write_bytes(work, n, fill, rule, scan, used, masks, i, e);
+        write_bytes(work, n, fill, rule, scan, node, masks, i, e);
         i = e;
     }
     false
@@ -130,14 +132,14 @@ fn node_end(work: &[i32], n: usize, i: usize) -> usize
     n
 }
 
-// The bytes of the segments from i to e, by the entries in use.
+// The bytes of the node's segments, from i to e, by the entries in use.
 fn write_bytes(
     work: &[i32],
     n: usize,
     fill: u32,
     rule: u32,
     scan: &[i64],
-    used: usize,
+    node: Node,
     masks: &mut [u8],
     i: usize,
     e: usize,
@@ -145,14 +147,15 @@ fn write_bytes(
     requires { ⌜ 6 * n ≤ length (now work) ⌝ }
     requires { ⌜ OnGrids (now work) n ⌝ }
     requires { ⌜ rule < 7 ⌝ }
-    requires { ⌜ (3 * used ≤ length (now scan)) × (used ≤ 2048) ⌝ }
-    requires { ⌜ All (EntryOf (now work) n) (rowsFrom entries (now scan) 0 used) ⌝ }
+    requires { ⌜ (3 * node .used ≤ length (now scan)) × (node .used ≤ 2048) ⌝ }
+    requires { ⌜ All (EntryOf (now work) n) (rowsFrom entries (now scan) 0 (node .used)) ⌝ }
+    requires { ⌜ Ready (now work) (now scan) node i e ⌝ }
     requires { ⌜ (i ≤ e) × (e ≤ n) × (n ≤ length (now masks)) ⌝ }
-    ensures { λ _. ⌜ now (masks .exit) ≡ sets (now (masks .entry)) i (bytesBy fill rule (now (work .entry)) (rowsFrom entries (now (scan .entry)) 0 used) (rowsFrom segments (now (work .entry)) i (e - i))) ⌝ }
+    ensures { λ _. ⌜ now (masks .exit) ≡ sets (now (masks .entry)) i (bytesBy fill rule (now (work .entry)) (rowsFrom entries (now (scan .entry)) 0 (node .used)) (rowsFrom segments (now (work .entry)) i (e - i))) ⌝ }
 {
     for k in i..e {
         let v = geom::read(work, k);
-        let s = scan::sums::sums_below(work, n, scan, used, v);
+        let s = scan::sums::sums_below(work, n, scan, node.used, node.known, node.sums, v);
         let byte = scan::sums::byte(fill, rule, s, v);
         masks[k] = byte;
     }

@@ -1,5 +1,6 @@
 pub mod Under
 pub mod Entries
 pub mod Adding
+pub mod Walking
 pub mod Holding
 pub mod Node

@@ -1,7 +1,9 @@
 // What is live at a node, and what lies below an edge.
 ghost use mathlib.Core.Path.{_≡_};
-ghost use Rattle.geom.specs.Plane.{GridSegment};
+ghost use lib.IntN.{pos};
+ghost use Rattle.geom.specs.Plane.{GridPoint, GridSegment, sameZ};
 ghost use Rattle.scan.specs.Masks.{alive, under, below, live};
+ghost use Rattle.scan.specs.Scan.{heightAt, underAt};
 use geom::Coord;
 use geom::Point;
 use geom::Segment;
@@ -37,19 +39,49 @@ fn is_alive(t: Segment, x: Coord) -> bool
     order::less(x, t.b.x)
 }
 
-// Where e.a lies on t's line, e runs above t just if its b lies left of that line: so the lesser slope is one more turn.
+// The turn at e.a decides, unless e.a lies on t's line: then e's slope does.
 fn is_under(t: Segment, e: Segment) -> bool
     requires { ⌜ GridSegment t ⌝ }
     requires { ⌜ GridSegment e ⌝ }
     ensures { λ r. ⌜ r ≡ under t e ⌝ }
 {
-    let h = turns::turn(t.a, t.b, e.a);
-    if 0 < h {
-        return true;
+    let h = height_at(t, e.a);
+    if h.level {
+        return is_under_at(t, e);
     }
-    if h < 0 {
-        return false;
+    h.over
+}
+
+// Whether p lies over t's line, and whether it lies on it.
+pub(crate) struct Height {
+    pub over: bool,
+    pub level: bool,
+}
+
+pub(crate) fn height_at(t: Segment, p: Point) -> Height
+    requires { ⌜ GridSegment t ⌝ }
+    requires { ⌜ GridPoint p ⌝ }
+    ensures { λ r. ⌜ r ≡ heightAt t p ⌝ }
+{
+    let h = turns::turn(t.a, t.b, p);
+    Height {
+        over: 0 < h,
+        level: is_zero(h),
     }
+}
+
+fn is_zero(z: i64) -> bool
+    ensures { λ r. ⌜ r ≡ sameZ z (pos 0) ⌝ }
+{
+    z == 0
+}
+
+// Where e.a lies on t's line, e runs above t just if its b lies left of that line: so the lesser slope is one more turn.
+fn is_under_at(t: Segment, e: Segment) -> bool
+    requires { ⌜ GridSegment t ⌝ }
+    requires { ⌜ GridSegment e ⌝ }
+    ensures { λ r. ⌜ r ≡ underAt t e ⌝ }
+{
     if order::same(e.a.x, e.b.x) {
         return true;
     }

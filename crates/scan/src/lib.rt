@@ -2,4 +2,5 @@
 
 mod edge;
 pub mod list;
+pub mod nodes;
 pub mod sums;

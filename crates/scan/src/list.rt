@@ -1,12 +1,12 @@
-// The scan list: the edges that are live at a node, in the order of the work list. Ended edges leave, and their room is used again.
+// The scan list: the edges that are live at a node, in the order of the work list.
 ghost use mathlib.Core.Path.{_≡_};
 ghost use mathlib.Core.List.{[], _∷_};
 ghost use Prim.Native.Nat.{_+_, _-_, _*_, _≤_, _<_};
 ghost use lib.ListN.{length};
-ghost use Rattle.whole.specs.Kind.{rowAt, putRow, rowsFrom, front};
+ghost use Rattle.whole.specs.Kind.{rowAt, putRow};
 ghost use Rattle.whole.specs.Append.{Added};
-ghost use Rattle.whole.specs.Sum.{All, keep};
-ghost use Rattle.scan.specs.Scan.{entries, entryOf as entryFor, entriesFrom, named as namedBy, EntryOf, liveAt, arrivals, Holds};
+ghost use Rattle.whole.specs.Sum.{keep};
+ghost use Rattle.scan.specs.Scan.{entries, entryOf as entryFor, entriesFrom, named as namedBy, EntryOf, liveAt};
 use geom::Point;
 use geom::Segment;
 
@@ -28,7 +28,7 @@ pub(crate) fn entry_at(scan: &[i64], k: usize) -> Entry
     }
 }
 
-fn put(scan: &mut [i64], k: usize, t: Entry)
+pub(crate) fn put(scan: &mut [i64], k: usize, t: Entry)
     requires { ⌜ 3 * k + 3 ≤ length (now scan) ⌝ }
     ensures { λ _. ⌜ now (scan .exit) ≡ putRow entries (now (scan .entry)) k t ⌝ }
 {
@@ -75,30 +75,8 @@ pub(crate) fn named(work: &[i32], n: usize, t: Entry) -> Segment
     geom::read(work, t.segment as usize)
 }
 
-// Of the entries in use only those that are live at p stay.
-fn expire(work: &[i32], n: usize, scan: &mut [i64], used: usize, p: Point) -> usize
-    requires { ⌜ 6 * n ≤ length (now work) ⌝ }
-    requires { ⌜ 3 * used ≤ length (now scan) ⌝ }
-    requires { ⌜ All (EntryOf (now work) n) (rowsFrom entries (now scan) 0 used) ⌝ }
-    ensures number { λ r. ⌜ r ≡ length (keep (liveAt (now (work .entry)) p) (rowsFrom entries (now (scan .entry)) 0 used)) ⌝ }
-    ensures within { λ r. ⌜ r ≤ used ⌝ }
-    ensures list { λ r. ⌜ now (scan .exit) ≡ front entries (now (scan .entry)) (keep (liveAt (now (work .entry)) p) (rowsFrom entries (now (scan .entry)) 0 used)) ⌝ }
-{
-    let mut left: usize = 0;
-    for k in 0..used {
-        let t = entry_at(scan, k);
-        let v = named(work, n, t);
-        if crate::edge::is_live(v, p) {
-            put(scan, left, t);
-            left += 1;
-            continue;
-        }
-    }
-    left
-}
-
 // The segments from i to e enter, if they are live at p.
-fn enter(
+pub(crate) fn enter(
     work: &[i32],
     scan: &mut [i64],
     room: usize,
@@ -123,29 +101,4 @@ fn enter(
         }
     }
     count
-}
-
-// A node at p, the segments from i to e of a list that is in order or not: ended edges leave, and then its own enter. Without order the list is made anew.
-pub fn arrive(
-    work: &[i32],
-    n: usize,
-    scan: &mut [i64],
-    room: usize,
-    used: usize,
-    i: usize,
-    e: usize,
-    p: Point,
-    sorted: bool,
-) -> usize
-    requires { ⌜ (6 * n ≤ length (now work)) × (3 * room ≤ length (now scan)) ⌝ }
-    requires { ⌜ (used ≤ room) × (room ≤ 2048) ⌝ }
-    requires { ⌜ (i ≤ e) × (e ≤ n) × (n ≤ 2048) ⌝ }
-    requires { ⌜ All (EntryOf (now work) n) (rowsFrom entries (now scan) 0 used) ⌝ }
-    ensures { λ r. ⌜ Holds room (now (scan .entry)) (arrivals (now (work .entry)) n sorted (rowsFrom entries (now (scan .entry)) 0 used) i e p) r (now (scan .exit)) ⌝ }
-{
-    if sorted {
-        let left = expire(work, n, scan, used, p);
-        return enter(work, scan, room, left, i, e, p);
-    }
-    enter(work, scan, room, 0, 0, n, p)
 }

@@ -6,7 +6,9 @@ use borrow.Author.Needs.{needs}
 use lib.ListN.{length}
 use Rattle.whole.specs.Kind.{rowsFrom}
 use Rattle.geom.specs.declared.Segment.{Segment}
-use Rattle.scan.specs.Scan.{entries, segmentAt, arrivals, Holds}
+use Rattle.scan.specs.Scan.{entries, segmentAt, stays, arrivals, Known, Holds}
+use Rattle.build.specs.Sweep.{Ready}
+use Rattle.build.proofs.Node.{node-ready}
 use Rattle.build.proofs.Sweeping.{Sweeping, sweeping-start, sweeping-step, swept-crowded, swept, entries-now}
 use Rattle.build.proofs.sweep.sweep.Statement.{statement}
 use Rattle.build.proofs.sweep.sweep.Tie as tie
@@ -25,14 +27,27 @@ roomy c =
     (omega arith, omega arith)
 
 -- what the node leaves, by the point where its first segment starts
-arrived : (c : tie.After-arrive Inv-loop μ-loop) → let e = c .before .before .before in let l = e .before .before in let o = l .before in let a = o .before .before .before .args in Holds (o .before .room-of .result) (l .loop .scan) (arrivals (a .work .now) (a .n) (o .in-order .result) (rowsFrom entries (l .loop .scan) 0 (l .loop .used)) (l .loop .i) (e .node-end .result) (segmentAt (a .work .now) (l .loop .i) .a)) (c .arrive .result) (c .arrive .last .1 .1 .0)
+arrived : (c : tie.After-arrive Inv-loop μ-loop) → let e = c .before .before .before in let l = e .before .before in let o = l .before in let a = o .before .before .before .args in Holds (o .before .room-of .result) (l .loop .scan) (arrivals (a .work .now) (a .n) (o .in-order .result) (rowsFrom entries (l .loop .scan) 0 (l .loop .used)) (l .loop .i) (e .node-end .result) (segmentAt (a .work .now) (l .loop .i) .a)) (c .arrive .result .used) (c .arrive .last .1 .1 .0)
 arrived c =
     let v = c .before .before in
     let e = v .before in
     let l = e .before .before in
     let o = l .before in
     let a = o .before .before .before .args in
-    subst (λ (u : Segment). Holds (o .before .room-of .result) (l .loop .scan) (arrivals (a .work .now) (a .n) (o .in-order .result) (rowsFrom entries (l .loop .scan) 0 (l .loop .used)) (l .loop .i) (e .node-end .result) (u .a)) (c .arrive .result) (c .arrive .last .1 .1 .0)) (v .read .ensures) (c .arrive .ensures)
+    subst (λ (u : Segment). Holds (o .before .room-of .result) (l .loop .scan) (arrivals (a .work .now) (a .n) (o .in-order .result) (rowsFrom entries (l .loop .scan) 0 (l .loop .used)) (l .loop .i) (e .node-end .result) (u .a)) (c .arrive .result .used) (c .arrive .last .1 .1 .0)) (v .read .ensures) (c .arrive .ensures .0)
+
+-- and what it knows of each segment that starts there
+ready : (c : tie.After-arrive Inv-loop μ-loop) → let e = c .before .before .before in let l = e .before .before in let o = l .before in c .arrive .result .used ≤ o .before .room-of .result → Ready (o .before .before .before .args .work .now) (c .arrive .last .1 .1 .0) (c .arrive .result) (l .loop .i) (e .node-end .result)
+ready c h =
+    let v = c .before .before in
+    let e = v .before in
+    let l = e .before .before in
+    let o = l .before in
+    let a = o .before .before .before .args in
+    let w = a .work .now in
+    let L = rowsFrom entries (l .loop .scan) 0 (l .loop .used) in
+    let k = subst (λ (u : Segment). Known w (u .a) (stays w (o .in-order .result) L (u .a)) (c .arrive .result .known) (c .arrive .result .sums)) (v .read .ensures) (c .arrive .ensures .1) in
+    node-ready w (a .n) L (o .in-order .result) (e .node-end .ensures) (arrived c) k h
 
 room-of-requires : tie.Need-room-of-requires Inv-loop μ-loop
 room-of-requires c κs = search needs
@@ -59,7 +74,7 @@ arrive-requires c κs =
     let p = l .before .before .before .before .pre in
     let g = l .loop .inv in
     let d = e .node-end .ensures in
-    ((p .0 .0, roomy l .0), ((g .fits, roomy l .1), ((omega (arith, d .after), d .within, p .0 .1), g .entry)))
+    ((p .0 .0, roomy l .0), (p .1 .0, (rw (c .before .read .ensures) (p .1 .0 .each (l .loop .i) (omega arith) .a), ((g .fits, roomy l .1), ((omega (arith, d .after), d .within, p .0 .1), g .entry)))))
 
 same-length : tie.Need-same-length Inv-loop μ-loop
 same-length c =
@@ -90,9 +105,9 @@ write-bytes-requires c κs =
     let a = s .args in
     let g = l .loop .inv in
     let d = e .node-end .ensures in
-    let h : b .arrive .result ≤ o .before .room-of .result = c .before .before .if1 .left in
+    let h : b .arrive .result .used ≤ o .before .room-of .result = c .before .before .if1 .left in
     let now = entries-now (a .fill) (a .rule) (o .before .room-of .result) (a .work .now) (a .n) (o .in-order .result) g (o .in-order .ensures) d (arrived b) h in
-    (s .pre .0 .0, (s .pre .1 .0, (s .pre .1 .1, ((omega (arith, h, roomy l .0, arrived b .same-length), omega (arith, h, roomy l .1)), (now, (omega (arith, d .after), d .within, omega (arith, g .masks-kept, s .pre .0 .2)))))))
+    (s .pre .0 .0, (s .pre .1 .0, (s .pre .1 .1, ((omega (arith, h, roomy l .0, arrived b .same-length), omega (arith, h, roomy l .1)), (now, (ready b h, (omega (arith, d .after), d .within, omega (arith, g .masks-kept, s .pre .0 .2))))))))
 
 loop-less : tie.Need-loop-less Inv-loop μ-loop
 loop-less c =

@@ -22,12 +22,12 @@ use Rattle.build.proofs.sweep.write_bytes.Statement.{statement}
 use Rattle.build.proofs.sweep.write_bytes.Tie as tie
 
 abbrev Inv-loop : tie.InvT-loop
-Inv-loop work n fill rule scan used masks₀ i e k₀ masks k =
+Inv-loop work n fill rule scan node masks₀ i e k₀ masks k =
     (i ≤ k) × (k ≤ e) × (length masks ≡ length masks₀)
-    × (sets masks k (bytesBy fill rule work (rowsFrom entries scan 0 used) (rowsFrom segments work k (e - k))) ≡ sets masks₀ i (bytesBy fill rule work (rowsFrom entries scan 0 used) (rowsFrom segments work i (e - i))))
+    × (sets masks k (bytesBy fill rule work (rowsFrom entries scan 0 (node .used)) (rowsFrom segments work k (e - k))) ≡ sets masks₀ i (bytesBy fill rule work (rowsFrom entries scan 0 (node .used)) (rowsFrom segments work i (e - i))))
 
 abbrev μ-loop : tie.MeasureT-loop
-μ-loop work n fill rule scan used masks₀ i e k₀ masks k = e - k
+μ-loop work n fill rule scan node masks₀ i e k₀ masks k = e - k
 
 in-subject : (c : tie.After-read Inv-loop μ-loop) → SFits w32 (c .read .result .subject .0)
 in-subject c = search needs
@@ -45,7 +45,8 @@ sums-below-requires : tie.Need-sums-below-requires Inv-loop μ-loop
 sums-below-requires c κs =
     let l = c .before .before in
     let p = l .before .before .pre in
-    (p .0, (p .1 .0, (rw (c .read .ensures) (p .1 .0 .each (l .loop .k) (omega arith)), (p .1 .1 .1 .0, p .1 .1 .1 .1 .0))))
+    let r = p .1 .1 .1 .1 .1 .0 in
+    (p .0, (p .1 .0, (rw (c .read .ensures) (p .1 .0 .each (l .loop .k) (omega arith)), ((p .1 .1 .1 .0 .0, p .1 .1 .1 .0 .1, r .within), (p .1 .1 .1 .1 .0, rw (c .read .ensures) (r .each (l .loop .k) (omega arith) (omega arith)))))))
 
 byte-requires : tie.Need-byte-requires Inv-loop μ-loop
 byte-requires c κs =
@@ -59,7 +60,7 @@ slice-write-masks : tie.Need-slice-write-masks Inv-loop μ-loop
 slice-write-masks c =
     let i = c .before .before .before in
     let l = i .before in
-    let p = l .before .before .pre .1 .1 .1 .1 .1 in
+    let p = l .before .before .pre .1 .1 .1 .1 .1 .1 in
     omega (arith, l .loop .inv .2)
 
 add-k : tie.Need-add-k Inv-loop μ-loop
@@ -75,7 +76,7 @@ loop-again c =
     let l = r .before .before in
     let a = l .before .before .args in
     let w = a .work .now in
-    let L = rowsFrom entries (a .scan .now) 0 (a .used) in
+    let L = rowsFrom entries (a .scan .now) 0 (a .node .used) in
     let k = l .loop .k in
     let v = segmentAt w k in
     let s : b .sums-below .result ≡ sumsOf w v L = b .sums-below .ensures .0 ∙ ap (λ (u : Segment). sumsOf w u L) (r .read .ensures) in
@@ -92,7 +93,7 @@ returns c =
     let l = c .before in
     let a = l .before .before .args in
     let w = a .work .now in
-    sym (ap (λ (K : List Segment). sets (l .loop .masks) (l .loop .k) (bytesBy (a .fill) (a .rule) w (rowsFrom entries (a .scan .now) 0 (a .used)) K)) (rows-done segments w (a .e) (l .loop .k) (omega arith))) ∙ l .loop .inv .3
+    sym (ap (λ (K : List Segment). sets (l .loop .masks) (l .loop .k) (bytesBy (a .fill) (a .rule) w (rowsFrom entries (a .scan .now) 0 (a .node .used)) K)) (rows-done segments w (a .e) (l .loop .k) (omega arith))) ∙ l .loop .inv .3
 
 pub write-bytes-spec : {M : Type 1} → statement M
 write-bytes-spec =
