@@ -1,12 +1,11 @@
 -- How two segments cross ("Crossing").
 use mathlib.Core.Bool.{Bool, true, false, not, cond, _&&_, _||_}
-use Prim.Native.Nat.{ℕ, _+_, _*_, _%_, min}
+use Prim.Native.Nat.{ℕ, _+_, _*_, _%_}
 use lib.Dec.{ltb, leb, eqb}
-use lib.IntN.{ℤ, pos, natAbs, _+ℤ_, _-ℤ_, _*ℤ_}
-use lib.Signed.{quotZ}
+use lib.IntN.{pos, natAbs}
 use Rattle.geom.specs.declared.Point.{Point}
 use Rattle.geom.specs.declared.Segment.{Segment}
-use Rattle.geom.specs.Plane.{point, sameZ, samePoint, between, upright, gridSegment, against, sideOf}
+use Rattle.geom.specs.Plane.{point, samePoint, between, gridSegment, against, sideOf}
 unfoldable pub use Rattle.plane.specs.Quotients.{nearest}
 unfoldable pub use Rattle.middles.specs.Point.{level, quotient, crossPoint, far, nearer, reach}
 use Rattle.cross.specs.declared.answer.Kind.{Kind}

@@ -3,11 +3,11 @@
 use mathlib.Core.Path.{_≡_, refl, sym, subst}
 use mathlib.Core.Bool.{Bool, true, false, cond, _&&_}
 use mathlib.Core.Logic.{_≢_, inl, inr}
-use Prim.Native.Nat.{ℕ, _+_, _≤_}
+use Prim.Native.Nat.{ℕ, _+_, _%_, _≤_, _<_}
 use native.Mathlib.Omega.{arith}
 use lib.Dec.{ltb, eqb}
 use lib.IntN.{ℤ, natAbs}
-use borrow.Author.Tests.{eq-eqb, ne-eqb, le-ltb, eqb-true}
+use borrow.Author.Tests.{eq-eqb, ne-eqb, eqb-true, eqb-false, le-ltb}
 use Rattle.whole.specs.Order.{zz, split}
 use Rattle.whole.specs.Sign.{abs-is}
 use Rattle.whole.specs.Test.{and-l, and-r, or-true}
@@ -20,7 +20,7 @@ use Rattle.cross.specs.declared.answer.Crossing.{Crossing}
 use Rattle.cross.specs.declared.answer.Crossing.the-variants.{Nothing}
 use Rattle.cross.specs.declared.answer.Kind.the-variants.{TargetEnd, OtherEnd}
 use Rattle.cross.specs.Cross.{found, zero, onLine, crossPoint, middle, crossBy, crossing}
-use Rattle.cross.specs.Middle.{Middle, Sides}
+use Rattle.cross.specs.Middle.{Middle, Sides, zerosOf}
 
 -- ---- on a line
 
@@ -67,6 +67,26 @@ one-side radius t o e =
     let s2 = sideOf (t .a) (t .b) (o .b) in
     equal-signs radius t o s1 s2 (sideOf (o .a) (o .b) (t .a)) (sideOf (o .a) (o .b) (t .b)) (eqb-true s1 s2 (and-l (eqb s1 s2) (eqb (zero s1) 0) e)) (eqb-true (zero s1) 0 (and-r (eqb s1 s2) (eqb (zero s1) 0) e))
 
+-- ---- some end on the other's line
+
+-- a side that is not 1 is even
+even : (v : Segment) (p : Point) {s : ℕ} → s ≡ sideOf (v .a) (v .b) p → s ≢ 1 → zero s ≡ 0
+unfolding sideOf
+even v p {s} e n = go (sign (against v p)) e
+  where
+    go : {r : ℕ} → Sign (against v p) r → s ≡ r → zero s ≡ 0
+    go (under h) f = rw f
+    go (level h) f = absurd (n f)
+    go (over h) f = rw f
+
+-- so with some end on a line and none of the first three it is the last
+pub last-end : {t o : Segment} {s1 s2 s3 s4 : ℕ} → Sides t o s1 s2 s3 s4 → 0 < zerosOf s1 s2 s3 s4 → s1 ≢ 1 → s2 ≢ 1 → s3 ≢ 1 → eqb s4 1 ≡ true
+last-end {t} {o} {s1} {s2} {s3} {s4} s h a b c = go (eqb s4 1) refl
+  where
+    go : (l : Bool) → eqb s4 1 ≡ l → l ≡ true
+    go true e = refl
+    go false e = absurd (omega (arith, even t (o .a) (s .first) a, even t (o .b) (s .second) b, even o (t .a) (s .third) c, even o (t .b) (s .fourth) (eqb-false s4 1 e)))
+
 -- ---- no end on the other's line, and the sides of each couple differ
 
 couple : {y z : ℤ} {s r : ℕ} → Sign y s → Sign z r → s ≢ r → s ≢ 1 → r ≢ 1 → Parted y z
@@ -87,3 +107,18 @@ middle-of {t} {o} {s1} {s2} {s3} {s4} s n m a b c d = record {
   where
     known : (z : ℤ) (r : ℕ) → r ≡ signOf z → Sign z r
     known z r e = subst (Sign z) (sym e) (sign z)
+
+-- what the definition then comes to
+module _ (radius : ℕ) (t o : Segment) (s1 s2 s3 s4 : ℕ) (clear : zerosOf s1 s2 s3 s4 ≤ 0) where
+  pub clear-other : s1 ≡ s2 → crossBy radius t o s1 s2 s3 s4 ≡ Nothing
+  clear-other e = one-side radius t o s1 s2 s3 s4 e (omega arith)
+
+  pub clear-target : s1 ≢ s2 → s3 ≡ s4 → crossBy radius t o s1 s2 s3 s4 ≡ Nothing
+  unfolding crossBy
+  clear-target n e =
+      let zeros = zerosOf s1 s2 s3 s4 in
+      rw (ne-eqb zeros 4 (λ z. omega arith), le-ltb 1 zeros (omega arith), ne-eqb s1 s2 n, eq-eqb s3 s4 e)
+
+  pub clear-middle : s1 ≢ s2 → s3 ≢ s4 → crossBy radius t o s1 s2 s3 s4 ≡ middle radius t o (crossPoint t o)
+  clear-middle n m =
+      rw (by-ends radius t o s1 s2 s3 s4 (λ z. omega arith) (omega arith) n m, ne-eqb s1 1 (λ z. omega arith), ne-eqb s2 1 (λ z. omega arith), ne-eqb s3 1 (λ z. omega arith), ne-eqb s4 1 (λ z. omega arith))

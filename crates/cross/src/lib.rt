@@ -1,12 +1,12 @@
 // How two segments cross: by the four signs, and in the middle by the rounded point.
 ghost use mathlib.Core.Path.{_≡_};
 ghost use mathlib.Core.Bool.{_&&_};
-ghost use Prim.Native.Nat.{_*_, _<_};
+ghost use Prim.Native.Nat.{ℕ, _*_, _<_};
 ghost use lib.Dec.{leb};
 ghost use Rattle.geom.specs.Plane.{GridPoint, GridSegment, gridSegment};
 ghost use Rattle.cross.specs.Cross.{found as foundAt, inner as isInner, bit, collinearMask, onLine, onBoth, reach, snapped as snappedBy, middle as middleBy, crossPoint, crossBy, crossing as crossingOf, hasLength, crossAny};
 ghost use Rattle.cross.specs.Said.{crossSays, crossSaid};
-ghost use Rattle.cross.specs.Middle.{Middle, Sides, nearestEnd};
+ghost use Rattle.cross.specs.Middle.{Middle, Sides, zerosOf, nearestEnd};
 ghost use Rattle.cross.specs.Sides.{beside};
 
 pub mod answer;
@@ -142,20 +142,11 @@ fn middle(target: Segment, other: Segment, radius: u64) -> Cross
     snapped(target, other, p, radius)
 }
 
-// What two segments make of their four sides.
-fn by_sides(
-    target: Segment,
-    other: Segment,
-    s1: u8,
-    s2: u8,
-    s3: u8,
-    s4: u8,
-    radius: u64,
-) -> Crossing
-    requires { ⌜ GridSegment target ⌝ }
-    requires { ⌜ GridSegment other ⌝ }
+// Some end is on the other's line. With exactly one and each couple on two sides, that end marks the other.
+fn on_a_line(target: Segment, other: Segment, s1: u8, s2: u8, s3: u8, s4: u8) -> Crossing
     requires { ⌜ Sides target other s1 s2 s3 s4 ⌝ }
-    ensures { λ r. ⌜ r ≡ crossBy radius target other s1 s2 s3 s4 ⌝ }
+    requires { ⌜ 0 < zerosOf s1 s2 s3 s4 ⌝ }
+    ensures { λ r. ⌜ ((radius : ℕ) → r ≡ crossBy radius target other s1 s2 s3 s4) ⌝ }
 {
     let zeros = s1 % 2 + s2 % 2 + s3 % 2 + s4 % 2;
     if zeros == 4 {
@@ -183,8 +174,32 @@ fn by_sides(
     if s3 == 1 {
         return found(target.a, Kind::TargetEnd, false);
     }
-    if s4 == 1 {
-        return found(target.b, Kind::TargetEnd, false);
+    found(target.b, Kind::TargetEnd, false)
+}
+
+// What two segments make of their four sides. With no end on the other's line it is a middle crossing, or none.
+fn by_sides(
+    target: Segment,
+    other: Segment,
+    s1: u8,
+    s2: u8,
+    s3: u8,
+    s4: u8,
+    radius: u64,
+) -> Crossing
+    requires { ⌜ GridSegment target ⌝ }
+    requires { ⌜ GridSegment other ⌝ }
+    requires { ⌜ Sides target other s1 s2 s3 s4 ⌝ }
+    ensures { λ r. ⌜ r ≡ crossBy radius target other s1 s2 s3 s4 ⌝ }
+{
+    if 0 < s1 % 2 + s2 % 2 + s3 % 2 + s4 % 2 {
+        return on_a_line(target, other, s1, s2, s3, s4);
+    }
+    if s1 == s2 {
+        return Crossing::Nothing;
+    }
+    if s3 == s4 {
+        return Crossing::Nothing;
     }
     Crossing::Found(middle(target, other, radius))
 }

@@ -1,5 +1,4 @@
 -- A middle crossing ("Crossing", "Middle point"): each line parts the other's ends. And what the steps to its point ask and give.
-use mathlib.Core.Path.{_≡_}
 use mathlib.Core.Logic.{_≢_}
 use Prim.Native.Nat.{ℕ, suc, _<_, _^_}
 use lib.IntN.{ℤ, pos, negsuc, negℤ, natAbs, _+ℤ_}

@@ -1,116 +1,59 @@
--- `cross::by_sides` meets its contract: each test is the definition's, in its order; where none holds, it is a middle crossing.
-use mathlib.Core.Path.{_≡_}
+-- `cross::by_sides` meets its contract: with no end on the other's line, equal sides in a couple make nothing, and otherwise it is a middle crossing.
+use mathlib.Core.Path.{sym, _∙_}
+use native.Mathlib.Omega.{arith}
 use borrow.Author.Needs.{needs}
-use borrow.Author.Tests.{eq-eqb, ne-eqb, lt-ltb, le-ltb}
-use Rattle.cross.specs.Cross.{crossBy}
-use Rattle.cross.specs.Sides.{ends, by-ends, middle-of}
+use Rattle.cross.specs.Sides.{clear-other, clear-target, clear-middle, middle-of}
 use Rattle.cross.proofs.by_sides.Statement.{statement}
 use Rattle.cross.proofs.by_sides.Tie as tie
 
-add-zeros : tie.Need-add-zeros
-add-zeros c = search needs
+add-if1 : tie.Need-add-if1
+add-if1 c = search needs
 
-add-zeros-2 : tie.Need-add-zeros-2
-add-zeros-2 c = search needs
+add-if1-2 : tie.Need-add-if1-2
+add-if1-2 c = search needs
 
-add-zeros-3 : tie.Need-add-zeros-3
-add-zeros-3 c = search needs
+add-if1-3 : tie.Need-add-if1-3
+add-if1-3 c = search needs
 
-found-requires : tie.Need-found-requires
-found-requires c κs = search needs
+on-a-line-requires : tie.Need-on-a-line-requires
+on-a-line-requires c κs = (c .before .pre .1 .1, c .if1 .taken)
 
 returns : tie.Need-returns
-unfolding crossBy
-returns c = rw (eq-eqb _ _ (c .before .if1 .taken)) (c .found .ensures)
+returns c = c .on-a-line .ensures (c .before .before .args .radius)
 
 returns-2 : tie.Need-returns-2
-unfolding crossBy
-returns-2 c = rw (ne-eqb _ _ (c .before .if1 .left), lt-ltb _ _ (c .if2 .taken))
+returns-2 c = let x = c .before .before .args in sym (clear-other (x .radius) (x .target) (x .other) (x .s1) (x .s2) (x .s3) (x .s4) (c .before .if1 .left) (c .if2 .taken))
 
 returns-3 : tie.Need-returns-3
-unfolding crossBy
-returns-3 c = rw (ne-eqb _ _ (c .before .before .if1 .left), le-ltb _ _ (c .before .if2 .left), eq-eqb _ _ (c .if3 .taken))
-
-returns-4 : tie.Need-returns-4
-unfolding crossBy
-returns-4 c =
-    rw (ne-eqb _ _ (c .before .before .before .if1 .left), le-ltb _ _ (c .before .before .if2 .left), ne-eqb _ _ (c .before .if3 .left), eq-eqb _ _ (c .if4 .taken))
-
-left : (c : tie.Else4) → let s = c .before .before .before .before .args in crossBy (s .radius) (s .target) (s .other) (s .s1) (s .s2) (s .s3) (s .s4) ≡ ends (s .radius) (s .target) (s .other) (s .s1) (s .s2) (s .s3) (s .s4)
-left c =
-    let f = c .before .before in
-    let s = f .before .before .args in
-    by-ends (s .radius) (s .target) (s .other) (s .s1) (s .s2) (s .s3) (s .s4) (f .before .if1 .left) (f .if2 .left) (c .before .if3 .left) (c .if4 .left)
-
-found-requires-2 : tie.Need-found-requires-2
-found-requires-2 c κs = search needs
-
-returns-5 : tie.Need-returns-5
-returns-5 c = rw (left (c .before .before), eq-eqb _ _ (c .before .if5 .taken)) (c .found2 .ensures)
-
-found-requires-3 : tie.Need-found-requires-3
-found-requires-3 c κs = search needs
-
-returns-6 : tie.Need-returns-6
-returns-6 c =
-    let e5 = c .before .before in
-    rw (left (e5 .before), ne-eqb _ _ (e5 .if5 .left), eq-eqb _ _ (c .before .if6 .taken)) (c .found3 .ensures)
-
-found-requires-4 : tie.Need-found-requires-4
-found-requires-4 c κs = search needs
-
-returns-7 : tie.Need-returns-7
-returns-7 c =
-    let e6 = c .before .before in
-    let e5 = e6 .before in
-    rw (left (e5 .before), ne-eqb _ _ (e5 .if5 .left), ne-eqb _ _ (e6 .if6 .left), eq-eqb _ _ (c .before .if7 .taken)) (c .found4 .ensures)
-
-found-requires-5 : tie.Need-found-requires-5
-found-requires-5 c κs = search needs
-
-returns-8 : tie.Need-returns-8
-returns-8 c =
-    let e7 = c .before .before in
-    let e6 = e7 .before in
-    let e5 = e6 .before in
-    rw (left (e5 .before), ne-eqb _ _ (e5 .if5 .left), ne-eqb _ _ (e6 .if6 .left), ne-eqb _ _ (e7 .if7 .left), eq-eqb _ _ (c .before .if8 .taken)) (c .found5 .ensures)
+returns-3 c =
+    let e = c .before in
+    let x = e .before .before .args in
+    sym (clear-target (x .radius) (x .target) (x .other) (x .s1) (x .s2) (x .s3) (x .s4) (e .before .if1 .left) (e .if2 .left) (c .if3 .taken))
 
 middle-requires : tie.Need-middle-requires
 middle-requires c κs =
-    let e7 = c .before in
-    let e6 = e7 .before in
-    let e5 = e6 .before in
-    let e4 = e5 .before in
-    let p = e4 .before .before .before .before .pre in
-    (p .0, (p .1 .0, middle-of (p .1 .1) (e4 .before .if3 .left) (e4 .if4 .left) (e5 .if5 .left) (e6 .if6 .left) (e7 .if7 .left) (c .if8 .left)))
+    let e = c .before in
+    let n = e .before .if1 .left in
+    let p = e .before .before .pre in
+    (p .0, (p .1 .0, middle-of (p .1 .1) (e .if2 .left) (c .if3 .left) (λ z. omega arith) (λ z. omega arith) (λ z. omega arith) (λ z. omega arith)))
 
-returns-9 : tie.Need-returns-9
-returns-9 c =
-    let e8 = c .before in
-    let e7 = e8 .before in
-    let e6 = e7 .before in
-    let e5 = e6 .before in
-    rw (left (e5 .before), ne-eqb _ _ (e5 .if5 .left), ne-eqb _ _ (e6 .if6 .left), ne-eqb _ _ (e7 .if7 .left), ne-eqb _ _ (e8 .if8 .left)) (c .middle .ensures)
+returns-4 : tie.Need-returns-4
+returns-4 c =
+    let f = c .before in
+    let e = f .before in
+    let x = e .before .before .args in
+    c .middle .ensures ∙ sym (clear-middle (x .radius) (x .target) (x .other) (x .s1) (x .s2) (x .s3) (x .s4) (e .before .if1 .left) (e .if2 .left) (f .if3 .left))
 
 pub by-sides-spec : {M : Type 1} → statement M
 by-sides-spec =
     tie.close
     (tie.spec
-    add-zeros
-    add-zeros-2
-    add-zeros-3
-    found-requires
+    add-if1
+    add-if1-2
+    add-if1-3
+    on-a-line-requires
     returns
     returns-2
     returns-3
-    returns-4
-    found-requires-2
-    returns-5
-    found-requires-3
-    returns-6
-    found-requires-4
-    returns-7
-    found-requires-5
-    returns-8
     middle-requires
-    returns-9)
+    returns-4)

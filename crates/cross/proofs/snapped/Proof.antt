@@ -1,5 +1,4 @@
 -- `cross::snapped` meets its contract: both tests are the definition's.
-use mathlib.Core.Bool.{_||_}
 use borrow.Author.Needs.{needs}
 use Rattle.cross.specs.Cross.{snapped}
 use Rattle.cross.proofs.snapped.Statement.{statement}

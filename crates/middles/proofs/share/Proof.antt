@@ -4,7 +4,7 @@ use Prim.Native.Nat.{_*_}
 use native.Mathlib.Omega.{arith}
 use lib.IntN.{natAbs}
 use mir.Facts.{toZ-ofZ}
-use borrow.Author.Needs.{needs, sfits-of}
+use borrow.Author.Needs.{sfits-of}
 use Rattle.plane.specs.Quotients.{near}
 use Rattle.middles.proofs.Steps.{share-is, share-most}
 use Rattle.middles.proofs.share.Statement.{statement}

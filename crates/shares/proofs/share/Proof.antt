@@ -1,6 +1,6 @@
 -- `shares::share` meets its contract. A number that a word holds is divided by the machine; otherwise it and the divisor are raised by one factor, which the
 -- quotient does not see, and one digit is the quotient.
-use mathlib.Core.Path.{_≡_, sym, ap, _∙_}
+use mathlib.Core.Path.{sym, ap, _∙_}
 use Prim.Native.Nat.{ℕ, _+_, _*_, _/_, _^_, _<_}
 use native.Mathlib.Nat.{mul-div-mul-right}
 use native.Mathlib.Omega.{arith}
