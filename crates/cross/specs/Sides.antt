@@ -111,7 +111,7 @@ middle-of {t} {o} {s1} {s2} {s3} {s4} s n m a b c d = record {
 -- what the definition then comes to
 module _ (radius : ℕ) (t o : Segment) (s1 s2 s3 s4 : ℕ) (clear : zerosOf s1 s2 s3 s4 ≤ 0) where
   pub clear-other : s1 ≡ s2 → crossBy radius t o s1 s2 s3 s4 ≡ Nothing
-  clear-other e = one-side radius t o s1 s2 s3 s4 e (omega arith)
+  clear-other e = equal-signs radius t o s1 s2 s3 s4 e (omega arith)
 
   pub clear-target : s1 ≢ s2 → s3 ≡ s4 → crossBy radius t o s1 s2 s3 s4 ≡ Nothing
   unfolding crossBy
