@@ -6,7 +6,7 @@ ghost use Rattle.geom.specs.Rows.{pointFrom};
 ghost use Rattle.cross.specs.Cross.{bit};
 ghost use Rattle.cross.specs.Said.{only, crossSays, crossSaid};
 ghost use Rattle.overlay.specs.Outcome.{outcome};
-ghost use Rattle.run.specs.Lent.{lent};
+ghost use Rattle.ending.specs.Lent.{lent};
 ghost use Rattle.cabi.specs.Overlay.{settingsOf, handed, told};
 ghost use Rattle.cabi.specs.Crossing.{segmentFrom, atPoint, reportOf, crossReport};
 use checks::Settings;

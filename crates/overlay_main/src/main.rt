@@ -2,7 +2,7 @@
 ghost use mathlib.Core.Path.{_≡_};
 ghost use Prim.Native.Nat.{_≤_};
 ghost use Rattle.wire.specs.Put.{Put};
-ghost use Rattle.run.specs.Lent.{lent};
+ghost use Rattle.ending.specs.Lent.{lent};
 ghost use Rattle.overlay_main.specs.Reply.{reply as replyOf};
 use overlay::answer::Answer;
 use wire::Decoded;

@@ -1,3 +1,2 @@
--- In reading order: how a run starts, and how it ends.
+-- How a run starts.
 pub mod Starting
-pub mod Endings

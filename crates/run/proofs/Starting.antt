@@ -26,7 +26,7 @@ use Rattle.steps.specs.Joining.{joinAnswer, joinList}
 use Rattle.overlay.specs.declared.answer.Answer.the-variants.{TooBig as Big}
 use Rattle.overlay.specs.Looks.{Ran, settled, refused, joined, ran}
 use Rattle.overlay.specs.Outcome.{finished, swept}
-use Rattle.run.specs.Lent.{lent}
+use Rattle.ending.specs.Lent.{lent}
 use Rattle.settle.specs.Step.{looksAllowed}
 use Rattle.settle.proofs.Sound.{clear, turned-good}
 use Rattle.settle.proofs.Joining.{Merges, is-joined, is-big}

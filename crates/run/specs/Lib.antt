@@ -1,2 +1,2 @@
--- The lent lists.
-pub mod Lent
+-- A second answer that fits the promise is the first.
+pub mod Only

@@ -1,17 +1,14 @@
 // The run: the input is checked, turned, sorted and merged, looked at and split until it is settled, then swept (core/).
 ghost use mathlib.Core.Path.{_≡_};
-ghost use Prim.Native.Nat.{_≤_};
 ghost use lib.ListN.{length};
 ghost use Rattle.whole.specs.Kind.{rowsFrom};
 ghost use Rattle.geom.specs.Limits.{workRoom, markRoom};
 ghost use Rattle.geom.specs.Rows.{segments};
-ghost use Rattle.overlay.specs.Looks.{settled, ran};
-ghost use Rattle.settle.specs.Kept.{Kept};
+ghost use Rattle.overlay.specs.Looks.{ran};
 ghost use Rattle.checks.specs.declared.Fault.the-variants.{Sound};
 ghost use Rattle.checks.specs.Checks.{faultOf};
-ghost use Rattle.checks.specs.Accepted.{InRange};
-ghost use Rattle.overlay.specs.Outcome.{cleared, swept, outcome};
-ghost use Rattle.run.specs.Lent.{lent, ended};
+ghost use Rattle.overlay.specs.Outcome.{swept, outcome};
+ghost use Rattle.ending.specs.Lent.{lent, ended};
 use checks::Fault;
 use checks::Settings;
 use overlay::answer::Answer;
@@ -55,53 +52,11 @@ fn run(
     let budget = settings.budget as usize;
     steps::begin(input, n, work);
     let steps::Joined::Rows(m) = steps::join(work, n) else {
-        return refuse(Answer::TooBig, work, marks, scan, masks);
+        return ending::refuse(Answer::TooBig, work, marks, scan, masks);
     };
     match settle::looks(work, m, marks, budget) {
-        Step::Settled(k, made) => finish(settings, k, made, work, marks, scan, masks),
-        Step::Refused(a) => refuse(a, work, marks, scan, masks),
-        Step::Next(_) => refuse(Answer::Unsettled, work, marks, scan, masks),
+        Step::Settled(k, made) => ending::finish(settings, k, made, work, marks, scan, masks),
+        Step::Refused(a) => ending::refuse(a, work, marks, scan, masks),
+        Step::Next(_) => ending::refuse(Answer::Unsettled, work, marks, scan, masks),
     }
-}
-
-// 7 to 11: every list is set to zero.
-fn refuse(
-    a: Answer,
-    work: &mut [i32],
-    marks: &mut [i32],
-    scan: &mut [i64],
-    masks: &mut [u8],
-) -> Answer
-    ensures { λ r. ⌜ ended r (now (work .exit)) (now (marks .exit)) (now (scan .exit)) (now (masks .exit)) ≡ cleared (lent (now (work .entry)) (now (marks .entry)) (now (scan .entry)) (now (masks .entry))) a ⌝ }
-{
-    lists::clear_i32(work);
-    lists::clear_i32(marks);
-    lists::clear_i64(scan);
-    lists::clear_u8(masks);
-    a
-}
-
-// The sweep of the first k rows, which are settled after so many looks: 11, or the edges and their bytes.
-fn finish(
-    settings: Settings,
-    k: usize,
-    looks: usize,
-    work: &mut [i32],
-    marks: &mut [i32],
-    scan: &mut [i64],
-    masks: &mut [u8],
-) -> Answer
-    requires { ⌜ InRange settings ⌝ }
-    requires { ⌜ Kept (now work) k ⌝ }
-    requires { ⌜ workRoom (length (now work)) ≤ length (now masks) ⌝ }
-    ensures { λ r. ⌜ ended r (now (work .exit)) (now (marks .exit)) (now (scan .exit)) (now (masks .exit)) ≡ swept settings (lent (now (work .entry)) (now (marks .entry)) (now (scan .entry)) (now (masks .entry))) (settled (rowsFrom segments (now (work .entry)) 0 k) looks) ⌝ }
-{
-    let fill = settings.fill;
-    let rule = settings.rule;
-    let build::sweep::Filled::Done = build::sweep::fill(work, k, fill, rule, scan, masks) else {
-        return refuse(Answer::ScanFull, work, marks, scan, masks);
-    };
-    steps::clear_behind(work, k);
-    lists::clear_i32(marks);
-    Answer::Settled(k, looks)
 }

@@ -8,7 +8,7 @@ use lib.IntN.{ℤ}
 use lib.ListN.{length}
 use Rattle.checks.specs.declared.Settings.{Settings}
 use Rattle.overlay.specs.Outcome.{Lent, outcome}
-use Rattle.run.specs.Lent.{lent}
+use Rattle.ending.specs.Lent.{lent}
 use Rattle.wire.specs.declared.Decoded.{Decoded}
 use Rattle.wire.specs.declared.Decoded.the-variants.{Asked, Broken}
 use Rattle.wire.specs.Asked.{isTaken, settingsOf, decodedAs, decodedList}

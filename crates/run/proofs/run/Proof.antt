@@ -13,7 +13,7 @@ use Rattle.overlay.specs.declared.answer.Answer.the-variants.{TooBig}
 use Rattle.overlay.specs.Looks.{Ran, refused, ran}
 use Rattle.overlay.specs.Outcome.{Lent, Outcome, swept}
 use Rattle.settle.specs.declared.Step.{Step}
-use Rattle.run.specs.Lent.{lent}
+use Rattle.ending.specs.Lent.{lent}
 use Rattle.settle.specs.Step.{goesOn, StillKept, looksAllowed, unsettled}
 use Rattle.settle.proofs.Joining.{Merges}
 use Rattle.run.proofs.Starting.{no-least, begun-size, begun-room, joins, refuses-9, looks-start, same-lengths}

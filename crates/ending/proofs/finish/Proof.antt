@@ -1,11 +1,11 @@
 -- The sweep ends the run: with 11, all lists cleared; else the rows stay and what lies behind them is cleared, with the marks.
 use mathlib.Core.Path.{refl, _∙_}
 use Rattle.overlay.specs.Outcome.{Lent}
-use Rattle.run.specs.Lent.{lent}
-use Rattle.run.proofs.Endings.{settles, refuses-11}
+use Rattle.ending.specs.Lent.{lent}
+use Rattle.ending.proofs.Endings.{settles, refuses-11}
 use borrow.Author.Needs.{needs}
-use Rattle.run.proofs.finish.Statement.{statement}
-use Rattle.run.proofs.finish.Tie as tie
+use Rattle.ending.proofs.finish.Statement.{statement}
+use Rattle.ending.proofs.finish.Tie as tie
 
 abbrev begun : tie.After-fill → tie.Start
 begun c = c .before .before .before .before .before

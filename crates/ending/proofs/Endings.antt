@@ -28,7 +28,7 @@ use Rattle.overlay.specs.Numbers.{answer0}
 use Rattle.overlay.specs.Looks.{settled}
 use Rattle.overlay.specs.Outcome.{Lent, Outcome, zeros, noMasks, cleared, finished, swept}
 use Rattle.settle.specs.Kept.{Kept}
-use Rattle.run.specs.Lent.{lent, ended}
+use Rattle.ending.specs.Lent.{lent, ended}
 use Rattle.settle.proofs.Sound.{clear, sound-on, sound-long, sound-near}
 
 pub all-cleared : (l : Lent) (a : Answer) {w m s : List ℤ} {b : List ℕ} → w ≡ zeros (l .work) → m ≡ zeros (l .marks) → s ≡ zeros (l .scan) → b ≡ noMasks (l .masks) → ended a w m s b ≡ cleared l a

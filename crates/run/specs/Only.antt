@@ -1,18 +1,13 @@
--- The lent lists of a run, and what it ends with, in document 01's numbers.
+-- The promise of `overlay` settles its answer and its lists.
 use mathlib.Core.Path.{_≡_, sym, ap, _∙_}
 use mathlib.Core.List.{List}
 use Prim.Native.Nat.{ℕ}
 use lib.IntN.{ℤ}
 use Rattle.overlay.specs.declared.answer.Answer.{Answer}
-use Rattle.overlay.specs.Numbers.{told, told-injective}
-use Rattle.overlay.specs.Outcome.{Lent, Outcome, outcome}
+use Rattle.overlay.specs.Numbers.{told-injective}
+use Rattle.overlay.specs.Outcome.{Lent, outcome}
 use Rattle.checks.specs.declared.Settings.{Settings}
-
-abbrev pub lent : List ℤ → List ℤ → List ℤ → List ℕ → Lent
-lent work marks scan masks = record { work = work; marks = marks; scan = scan; masks = masks }
-
-abbrev pub ended : Answer → List ℤ → List ℤ → List ℤ → List ℕ → Outcome
-ended a work marks scan masks = record { answer = told a; lists = lent work marks scan masks }
+use Rattle.ending.specs.Lent.{ended}
 
 -- THE THEOREM ("How tight the promises are"): a second answer, with its lists, that fits the promise of `overlay` is the first
 pub only-outcome : (input : List ℤ) (s : Settings) (l : Lent) (a b : Answer) (w v m n c d : List ℤ) (k j : List ℕ)

@@ -1,9 +1,9 @@
 -- Each list is cleared in turn.
-use Rattle.run.specs.Lent.{lent}
-use Rattle.run.proofs.Endings.{all-cleared}
+use Rattle.ending.specs.Lent.{lent}
+use Rattle.ending.proofs.Endings.{all-cleared}
 use borrow.Author.Needs.{needs}
-use Rattle.run.proofs.refuse.Statement.{statement}
-use Rattle.run.proofs.refuse.Tie as tie
+use Rattle.ending.proofs.refuse.Statement.{statement}
+use Rattle.ending.proofs.refuse.Tie as tie
 
 clear-i32-requires : tie.Need-clear-i32-requires
 clear-i32-requires c κs = search needs
