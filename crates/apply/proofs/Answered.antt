@@ -16,7 +16,7 @@ use Rattle.split.specs.Marks.{marks}
 use Rattle.split.specs.Chain.{split}
 use Rattle.apply.specs.declared.Applied.the-variants.{Pieces, Short, BadCount, Full}
 use Rattle.apply.specs.Answer.{inOrder, outcome, applyAnswer}
-use Rattle.apply.proofs.Pieces.{rowsAt}
+use Rattle.chains.proofs.Pieces.{rowsAt}
 use Rattle.apply.proofs.Back.{number-split}
 
 module _ (xs : List ℤ) (n : ℕ) (zs : List ℤ) (count : ℕ) where

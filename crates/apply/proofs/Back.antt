@@ -17,10 +17,10 @@ use Rattle.split.specs.declared.answer.Mark.{Mark}
 use Rattle.split.specs.Marks.{marks}
 use Rattle.split.specs.Chain.{pointsOf, chain, piecesFrom, splitFrom, split}
 use Rattle.apply.specs.Answer.{inOrder}
-use Rattle.apply.specs.Steps.{startOf}
-use Rattle.apply.specs.Number.{length-cut}
-use Rattle.apply.proofs.Points.{length-points}
-use Rattle.apply.proofs.Pieces.{rowsAt, rows-before}
+use Rattle.apply.specs.Start.{startOf}
+use Rattle.chains.specs.Number.{length-cut}
+use Rattle.chains.proofs.Points.{length-points}
+use Rattle.chains.proofs.Pieces.{rowsAt, rows-before}
 use Rattle.apply.proofs.Runs.{start-le, Edge, edge-all, edge-none, edge-next, run-points}
 
 -- the pieces of the segments from number i to n

@@ -21,7 +21,8 @@ use Rattle.split.specs.declared.answer.Mark.{Mark}
 use Rattle.split.specs.Marks.{marks}
 use Rattle.split.specs.Chain.{pointsOf}
 use Rattle.apply.specs.Answer.{names, earlier, leads, inOrder}
-use Rattle.apply.specs.Steps.{points, startOf}
+use Rattle.chains.specs.Steps.{points}
+use Rattle.apply.specs.Start.{startOf}
 
 -- ---- from the end of a run to its start
 

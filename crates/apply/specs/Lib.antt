@@ -1,5 +1,4 @@
--- In reading order: what splitting answers and leaves, and that in numbers; what its steps render; how many pieces there are.
+-- In reading order: what splitting answers and leaves, and that in numbers; where the marks of a segment start.
 pub mod Answer
 pub mod Said
-pub mod Steps
-pub mod Number
+pub mod Start

@@ -13,10 +13,10 @@ use Rattle.whole.specs.Kind.{rowAt, rowsFrom, flat}
 use Rattle.geom.specs.Rows.{segments}
 use Rattle.split.specs.Marks.{marks as markRows}
 use Rattle.split.specs.Chain.{chain, piecesFrom, splitFrom}
-use Rattle.apply.specs.Steps.{points}
+use Rattle.chains.specs.Steps.{points}
 use Rattle.steps.proofs.Least.{countable}
-use Rattle.apply.proofs.Points.{part-points, length-points}
-use Rattle.apply.proofs.Pieces.{rowsAt, row-kept}
+use Rattle.chains.proofs.Points.{part-points, length-points}
+use Rattle.chains.proofs.Pieces.{rowsAt, row-kept}
 use Rattle.apply.proofs.Runs.{Edge, edge-all, edge-none, edge-next, run-points}
 use Rattle.apply.proofs.Back.{piecesOn, none-yet, cut-step}
 use Rattle.apply.proofs.cut_all.Statement.{statement}

@@ -5,7 +5,7 @@ use native.Mathlib.Omega.{arith}
 use lib.IntN.{pos}
 use borrow.Author.Needs.{needs}
 use Rattle.geom.specs.Plane.{sameZ}
-use Rattle.apply.specs.Steps.{startOf}
+use Rattle.apply.specs.Start.{startOf}
 use Rattle.apply.proofs.Runs.{start-more, start-here, start-none}
 use Rattle.apply.proofs.run_start.Statement.{statement}
 use Rattle.apply.proofs.run_start.Tie as tie

@@ -1,8 +1,8 @@
--- `apply::next_point` meets its contract: the place from the end or from the start is the one that the definition takes.
+-- `chains::next_point` meets its contract: the place from the end or from the start is the one that the definition takes.
 use mathlib.Core.Path.{ap, _∙_}
 use borrow.Author.Needs.{needs}
-use Rattle.apply.proofs.next_point.Statement.{statement}
-use Rattle.apply.proofs.next_point.Tie as tie
+use Rattle.chains.proofs.next_point.Statement.{statement}
+use Rattle.chains.proofs.next_point.Tie as tie
 
 sub-read : tie.Need-sub-read
 sub-read c = search needs

@@ -1,7 +1,7 @@
--- `apply::piece` meets its contract: the counts are v's own, and it is turned as the definition says.
+-- `chains::piece` meets its contract: the counts are v's own, and it is turned as the definition says.
 use borrow.Author.Needs.{needs}
-use Rattle.apply.proofs.piece.Statement.{statement}
-use Rattle.apply.proofs.piece.Tie as tie
+use Rattle.chains.proofs.piece.Statement.{statement}
+use Rattle.chains.proofs.piece.Tie as tie
 
 forward-requires : tie.Need-forward-requires
 forward-requires c κs = search needs

@@ -1,4 +1,4 @@
--- `apply::walk` meets its contract. The loop's invariant: the points that are left give, from the last one and the next row on, the same end and the same list.
+-- `chains::walk` meets its contract. The loop's invariant: the points that are left give, from the last one and the next row on, the same end and the same list.
 use mathlib.Core.Path.{_≡_, refl, sym, ap, _∙_}
 use mathlib.Core.List.{_∷_}
 use Prim.Native.Nat.{_+_, _-_, _≤_}
@@ -8,11 +8,11 @@ use borrow.Author.Needs.{needs}
 use Rattle.whole.specs.KindLaws.{length-put}
 use Rattle.geom.specs.Rows.{segments}
 use Rattle.split.specs.Chain.{lastOf}
-use Rattle.apply.specs.Steps.{piecesTo, taken}
-use Rattle.apply.proofs.Points.{taken-step, taken-none}
-use Rattle.apply.proofs.Pieces.{rowsAt, piece-step, last-step, piece-none, last-none}
-use Rattle.apply.proofs.walk.Statement.{statement}
-use Rattle.apply.proofs.walk.Tie as tie
+use Rattle.chains.specs.Steps.{piecesTo, taken}
+use Rattle.chains.proofs.Points.{taken-step, taken-none}
+use Rattle.chains.proofs.Pieces.{rowsAt, piece-step, last-step, piece-none, last-none}
+use Rattle.chains.proofs.walk.Statement.{statement}
+use Rattle.chains.proofs.walk.Tie as tie
 
 abbrev Inv-loop : tie.InvT-loop
 Inv-loop work₀ at v column size back last₀ left₀ work last left =

@@ -16,7 +16,7 @@ use Rattle.geom.specs.declared.Point.{Point}
 use Rattle.geom.specs.declared.Segment.{Segment}
 use Rattle.geom.specs.Rows.{segments}
 use Rattle.split.specs.Chain.{nextY, lastOf, chainFrom, piecesFrom}
-use Rattle.apply.specs.Steps.{pieceOf, piecesTo}
+use Rattle.chains.specs.Steps.{pieceOf, piecesTo}
 
 pub pieces-through : (v : Segment) (p : Point) (h t : List Point) → piecesFrom v p (h ++ t) ≡ piecesTo v p h ++ piecesFrom v (lastOf p h) t
 unfolding piecesFrom piecesTo lastOf

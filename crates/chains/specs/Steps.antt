@@ -1,8 +1,8 @@
--- What the steps of splitting render ("Splitting"), over rows of marks in a flat list.
+-- What the steps of splitting one segment render ("Splitting"), over rows of marks in a flat list.
 use mathlib.Core.Bool.{Bool, cond}
 use mathlib.Core.List.{List, [], _∷_, map}
 use Prim.Native.Nat.{ℕ, zero, suc, _-_}
-use lib.IntN.{ℤ, pos}
+use lib.IntN.{ℤ}
 use Rattle.whole.specs.Kind.{rowAt, rowsFrom}
 use Rattle.geom.specs.declared.Point.{Point}
 use Rattle.geom.specs.declared.Segment.{Segment}
@@ -35,8 +35,3 @@ taken back zs size (suc k) = pointAt zs (cond back k (size - suc k)) ∷ taken b
 unfoldable pub joined : Point → List Point → ℕ
 joined p [] = 0
 joined p (q ∷ qs) = cond (sameZ (p .x .0) (q .x .0)) (suc (joined q qs)) 0
-
--- where the run of the marks of segment i that ends before mark number e starts
-unfoldable pub startOf : ℕ → List ℤ → ℕ → ℕ
-startOf i zs zero = zero
-startOf i zs (suc e) = cond (sameZ (rowAt marks zs e .segment) (pos i)) (startOf i zs e) (suc e)

@@ -13,7 +13,7 @@ use Rattle.geom.specs.declared.Point.{Point}
 use Rattle.geom.specs.Plane.{sameZ}
 use Rattle.split.specs.Marks.{marks}
 use Rattle.split.specs.Chain.{addTo, columns, nextY}
-use Rattle.apply.specs.Steps.{pointAt, points, taken, joined}
+use Rattle.chains.specs.Steps.{pointAt, points, taken, joined}
 
 -- ---- one after the other
 

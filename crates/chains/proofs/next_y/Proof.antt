@@ -1,13 +1,13 @@
--- `apply::next_y` meets its contract: the first column of the marks that are left starts with the next mark.
+-- `chains::next_y` meets its contract: the first column of the marks that are left starts with the next mark.
 use mathlib.Core.Path.{sym, ap, _∙_}
 use Prim.Native.Nat.{_+_, _-_}
 use native.Mathlib.Omega.{arith}
 use Rattle.split.specs.Chain.{nextY, columns}
-use Rattle.apply.specs.Steps.{pointAt, points}
-use Rattle.apply.proofs.Points.{points-step, points-done, next-y-first}
+use Rattle.chains.specs.Steps.{pointAt, points}
+use Rattle.chains.proofs.Points.{points-step, points-done, next-y-first}
 use borrow.Author.Needs.{needs}
-use Rattle.apply.proofs.next_y.Statement.{statement}
-use Rattle.apply.proofs.next_y.Tie as tie
+use Rattle.chains.proofs.next_y.Statement.{statement}
+use Rattle.chains.proofs.next_y.Tie as tie
 
 read-requires : tie.Need-read-requires
 read-requires c κs = search needs

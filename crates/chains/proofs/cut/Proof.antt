@@ -1,4 +1,4 @@
--- `apply::cut` meets its contract. The loop's invariant: the columns that are left give, from the point before them and the next row on, the same list.
+-- `chains::cut` meets its contract. The loop's invariant: the columns that are left give, from the point before them and the next row on, the same list.
 -- A turn of the loop is one column, in the order that its neighbours decide; its marks are read in a part of the run.
 use mathlib.Core.Path.{_≡_, refl, sym, ap, _∙_}
 use mathlib.Core.List.{reverse}
@@ -14,11 +14,11 @@ use Rattle.whole.specs.Kind.{flat}
 use Rattle.whole.specs.KindLaws.{length-put}
 use Rattle.geom.specs.Rows.{segments}
 use Rattle.split.specs.Chain.{columns, chainFrom, chain, piecesFrom}
-use Rattle.apply.specs.Steps.{points, piecesTo, taken}
-use Rattle.apply.proofs.Points.{points-done, column-split, taken-all, length-taken, part-points}
-use Rattle.apply.proofs.Pieces.{rowsAt, column-step, chain-none}
-use Rattle.apply.proofs.cut.Statement.{statement}
-use Rattle.apply.proofs.cut.Tie as tie
+use Rattle.chains.specs.Steps.{points, piecesTo, taken}
+use Rattle.chains.proofs.Points.{points-done, column-split, taken-all, length-taken, part-points}
+use Rattle.chains.proofs.Pieces.{rowsAt, column-step, chain-none}
+use Rattle.chains.proofs.cut.Statement.{statement}
+use Rattle.chains.proofs.cut.Tie as tie
 
 abbrev Inv-loop : tie.InvT-loop
 Inv-loop work₀ at v run size p₀ g₀ work p g =

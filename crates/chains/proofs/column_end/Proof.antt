@@ -1,13 +1,13 @@
--- `apply::column_end` meets its contract. The loop's invariant: with the marks from e on that join the one before them, the column is whole.
+-- `chains::column_end` meets its contract. The loop's invariant: with the marks from e on that join the one before them, the column is whole.
 use mathlib.Core.Path.{_≡_, sym, ap, _∙_}
 use Prim.Native.Nat.{_+_, _-_, _≤_, _<_}
 use native.Mathlib.Omega.{arith}
 use borrow.Author.Needs.{needs}
 use Rattle.geom.specs.Plane.{sameZ}
-use Rattle.apply.specs.Steps.{pointAt, points, joined}
-use Rattle.apply.proofs.Points.{points-step, points-done, joined-more, joined-stop, joined-none}
-use Rattle.apply.proofs.column_end.Statement.{statement}
-use Rattle.apply.proofs.column_end.Tie as tie
+use Rattle.chains.specs.Steps.{pointAt, points, joined}
+use Rattle.chains.proofs.Points.{points-step, points-done, joined-more, joined-stop, joined-none}
+use Rattle.chains.proofs.column_end.Statement.{statement}
+use Rattle.chains.proofs.column_end.Tie as tie
 
 abbrev Inv-loop : tie.InvT-loop
 Inv-loop run g size e₀ p₀ e p =
