@@ -8,7 +8,8 @@ ghost use Rattle.geom.specs.Rows.{segments};
 ghost use Rattle.rows.specs.Sorted.{fitting, inOrder};
 ghost use Rattle.segm.specs.Merge.{mergeAnswer, mergeList};
 ghost use Rattle.split.specs.Look.{look as marksOf};
-ghost use Rattle.split.specs.Looked.{lookAnswer, lookList};
+ghost use Rattle.split.specs.Looked.{lookAnswer};
+ghost use Rattle.pairwise.specs.Listed.{lookList};
 ghost use Rattle.build.specs.Fill.{said, numberOf, fillSaid};
 ghost use Rattle.cabi_parts.specs.Parts.{rowsIn, marksIn};
 use build::sweep::Filled;
@@ -39,7 +40,7 @@ pub extern "C" fn ciwetanos_look(work: &[i32], n: usize, marks: &mut [i32]) -> u
     ensures { λ r. ⌜ r ≡ marksIn (lookAnswer 2 (now (work .entry)) n (now (marks .entry))) ⌝ }
     ensures { λ _. ⌜ now (marks .exit) ≡ lookList (lookAnswer 2 (now (work .entry)) n (now (marks .entry))) (marksOf 2 (rowsFrom segments (now (work .entry)) 0 n)) (now (marks .entry)) ⌝ }
 {
-    marks_in(split::look::look(work, n, 2, marks))
+    marks_in(pairwise::look(work, n, 2, marks))
 }
 
 // The bytes of the first n rows: document 01's number of the answer.

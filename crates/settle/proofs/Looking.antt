@@ -23,7 +23,8 @@ use Rattle.split.specs.declared.answer.Looked.{Looked}
 use Rattle.split.specs.declared.answer.Looked.the-variants.{Marks, MarksFull}
 use Rattle.split.specs.Marks.{marks}
 use Rattle.split.specs.Look.{look}
-use Rattle.split.specs.Looked.{counted, lookAnswer, lookList}
+use Rattle.split.specs.Looked.{counted, lookAnswer}
+use Rattle.pairwise.specs.Listed.{lookList}
 use Rattle.split.proofs.answer.Looked.{the-type}
 use Rattle.overlay.specs.declared.answer.Answer.the-variants.{MarksFull as Full, Unsettled}
 use Rattle.overlay.specs.Looks.{Ran, settled, refused, radius, lookAt}

@@ -55,7 +55,7 @@ fn advance(work: &mut [i32], m: usize, marks: &mut [i32], made: usize, last: boo
     if m == 0 {
         return Step::Settled(0, made);
     }
-    let split::answer::Looked::Marks(count) = split::look::look(work, m, 2, marks) else {
+    let split::answer::Looked::Marks(count) = pairwise::look(work, m, 2, marks) else {
         return Step::Refused(Answer::MarksFull);
     };
     if count == 0 {

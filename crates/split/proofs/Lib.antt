@@ -1,5 +1,2 @@
--- In reading order: the mask's bits as marks, pairs without a mark and the pair loops; then tidying.
-pub mod MaskBits
-pub mod NoMark
-pub mod Looking
+-- Tidying.
 pub mod Tidying

@@ -1,5 +1,4 @@
-// The look over every pair, and its marks in order (split/solver.rs).
+// The marks of a look, in a list and in order (split/solver.rs).
 pub mod answer;
-pub mod look;
 pub mod mark;
 pub mod tidy;

@@ -33,7 +33,7 @@ fn read_from(marks: &[i32], k: usize) -> Mark
 }
 
 // The mark m becomes number i.
-pub(crate) fn write(marks: &mut [i32], i: usize, m: Mark)
+pub fn write(marks: &mut [i32], i: usize, m: Mark)
     requires { ⌜ 3 * i + 3 ≤ length (now marks) ⌝ }
     ensures { λ _. ⌜ now (marks .exit) ≡ putRow markRows (now (marks .entry)) i m ⌝ }
 {

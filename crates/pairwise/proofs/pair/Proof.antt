@@ -2,10 +2,10 @@
 use mathlib.Core.Path.{sym, _∙_}
 use Rattle.whole.specs.AppendLaws.{added-none}
 use Rattle.cross.specs.Sides.{one-side}
 use Rattle.split.specs.Look.{crossMarks}
 use borrow.Author.Needs.{needs}
-use Rattle.split.proofs.look.pair.Statement.{statement}
-use Rattle.split.proofs.look.pair.Tie as tie
+use Rattle.pairwise.proofs.pair.Statement.{statement}
+use Rattle.pairwise.proofs.pair.Tie as tie
 
 one-side-requires : tie.Need-one-side-requires
 one-side-requires c κs = search needs

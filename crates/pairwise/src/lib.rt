@@ -10,17 +10,18 @@ ghost use Rattle.geom.specs.Limits.{markRoom};
 ghost use Rattle.geom.specs.Plane.{GridSegment};
 ghost use Rattle.geom.specs.Rows.{segments};
 ghost use Rattle.checks.specs.Checks.{some, isOff};
 ghost use Rattle.split.specs.Marks.{marks as markRows};
 ghost use Rattle.split.specs.Look.{mark as markAt, one, lineMarks, pairMarks, look as marksOf};
-ghost use Rattle.split.specs.Looked.{counted, lookAnswer, lookList};
+ghost use Rattle.split.specs.Looked.{counted, lookAnswer};
+ghost use Rattle.pairwise.specs.Listed.{lookList};
 ghost use Rattle.split.specs.Said.{lookSays, lookSaid};
-use crate::answer::Looked;
-use crate::answer::Mark;
-use crate::mark;
 use cross::answer::Crossing;
 use cross::answer::Kind;
 use geom::Point;
 use geom::Segment;
+use split::answer::Looked;
+use split::answer::Mark;
+use split::mark;
 
 // Every pair i < j of the first n segments, i target and j other, with the squared radius of snapping: their marks stand at the front of the list.
 pub fn look(work: &[i32], n: usize, radius: u64, marks: &mut [i32]) -> Looked

@@ -4,12 +4,12 @@ use native.Mathlib.Omega.{arith}
 use lib.Dec.{eqb}
 use Rattle.whole.specs.Append.{Added}
 use Rattle.whole.specs.AppendLaws.{added-more}
 use Rattle.split.specs.Marks.{marks}
 use Rattle.split.specs.Look.{mark, one, lineMarks}
-use Rattle.split.proofs.MaskBits.{mask-bits, added-one}
+use Rattle.pairwise.proofs.MaskBits.{mask-bits, added-one}
 use borrow.Author.Needs.{needs}
-use Rattle.split.proofs.look.overlay.Statement.{statement}
-use Rattle.split.proofs.look.overlay.Tie as tie
+use Rattle.pairwise.proofs.overlay.Statement.{statement}
+use Rattle.pairwise.proofs.overlay.Tie as tie
 
 collinear-requires : tie.Need-collinear-requires
 collinear-requires c κs = search needs

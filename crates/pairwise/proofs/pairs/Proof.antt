@@ -11,12 +11,12 @@ use lib.ListN.{length, length-replicate}
 use Rattle.whole.specs.AppendLaws.{Coming, coming-all, coming-step, coming-none, coming-under}
 use Rattle.whole.specs.Kind.{rowsFrom}
 use Rattle.geom.specs.Rows.{segments}
 use Rattle.split.specs.Marks.{marks as markRows}
 use Rattle.split.specs.Look.{look}
 use Rattle.checks.proofs.Some.{each-on-grid}
-use Rattle.split.proofs.Looking.{withOthers, fromTarget, others-done, target-step, targets-done, pair-step, Left, room-fits, answer-full, answer-marks}
-use Rattle.split.proofs.look.pairs.Statement.{statement}
-use Rattle.split.proofs.look.pairs.Tie as tie
+use Rattle.pairwise.proofs.Looking.{withOthers, fromTarget, others-done, target-step, targets-done, pair-step, Left, room-fits, answer-full, answer-marks}
+use Rattle.pairwise.proofs.pairs.Statement.{statement}
+use Rattle.pairwise.proofs.pairs.Tie as tie
 
 abbrev Inv-loop : tie.InvT-loop
 Inv-loop work n radius marks₀ room count₀ i target j₀ marks count j = (i < n) × (i + 1 ≤ j) × (j ≤ n) × (count ≤ room) × Coming markRows room marks₀ count₀ (withOthers radius work i (i + 1) (n - (i + 1))) marks count (withOthers radius work i j (n - j))

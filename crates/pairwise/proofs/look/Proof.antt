@@ -10,10 +10,11 @@ use lib.ListN.{length}
 use Rattle.whole.specs.Kind.{rowsFrom}
 use Rattle.geom.specs.Rows.{segments}
 use Rattle.checks.specs.Checks.{some, isOff}
-use Rattle.split.specs.Looked.{lookAnswer, lookList}
+use Rattle.split.specs.Looked.{lookAnswer}
+use Rattle.pairwise.specs.Listed.{lookList}
 use Rattle.split.specs.Said.{also-looked}
-use Rattle.split.proofs.look.look.Statement.{statement}
-use Rattle.split.proofs.look.look.Tie as tie
+use Rattle.pairwise.proofs.look.Statement.{statement}
+use Rattle.pairwise.proofs.look.Tie as tie
 
 long-enough : (c : tie.Else2) → let a = c .before .before .args in (ltb 2048 (a .n) || ltb (length (a .work .now)) (6 * a .n)) ≡ false
 long-enough c = rw (le-ltb 2048 (c .before .before .args .n) (c .before .if1 .left), le-ltb _ _ (c .if2 .left))

@@ -1,9 +1,9 @@
 -- `push_if` meets its contract: a mark where the test holds, and none where it does not.
 use Rattle.whole.specs.AppendLaws.{added-none}
 use Rattle.split.specs.Look.{one}
 use borrow.Author.Needs.{needs}
-use Rattle.split.proofs.look.push_if.Statement.{statement}
-use Rattle.split.proofs.look.push_if.Tie as tie
+use Rattle.pairwise.proofs.push_if.Statement.{statement}
+use Rattle.pairwise.proofs.push_if.Tie as tie
 
 push-requires : tie.Need-push-requires
 push-requires c κs = search needs

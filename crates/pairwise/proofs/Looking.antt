@@ -18,11 +18,12 @@ use Rattle.whole.specs.KindLaws.{rows-step, rows-done}
 use Rattle.geom.specs.declared.Segment.{Segment}
 use Rattle.geom.specs.Limits.{markRoom}
 use Rattle.geom.specs.Rows.{segments}
 use Rattle.split.specs.declared.answer.Looked.the-variants.{Marks, MarksFull}
 use Rattle.split.specs.declared.answer.Mark.{Mark}
 use Rattle.split.specs.Marks.{marks}
 use Rattle.split.specs.Look.{pairMarks, marksWith, lookFrom}
-use Rattle.split.specs.Looked.{counted, lookList}
+use Rattle.split.specs.Looked.{counted}
+use Rattle.pairwise.specs.Listed.{lookList}
 
 module _ (radius : ℕ) (w : List ℤ) where
   -- target i with the k others from j on, and the k targets from i on

@@ -1,11 +1,11 @@
 -- `crossed` meets its contract: the crossing is the definition's, and each kind pushes the marks that the definition lists.
 use mathlib.Core.Path.{sym, _∙_}
 use Rattle.whole.specs.AppendLaws.{added-more, added-none}
 use Rattle.split.specs.Look.{crossMarks, kindMarks}
-use Rattle.split.proofs.NoMark.{no-marks}
+use Rattle.pairwise.proofs.NoMark.{no-marks}
 use borrow.Author.Needs.{needs}
-use Rattle.split.proofs.look.crossed.Statement.{statement}
-use Rattle.split.proofs.look.crossed.Tie as tie
+use Rattle.pairwise.proofs.crossed.Statement.{statement}
+use Rattle.pairwise.proofs.crossed.Tie as tie
 
 crossing-requires : tie.Need-crossing-requires
 crossing-requires c κs = search needs

@@ -8,10 +8,10 @@ use mir.Val.{toZ}
 use borrow.Author.Tests.{lt-ltb}
 use Rattle.whole.specs.Append.{putNext, putAll}
 use Rattle.whole.specs.AppendLaws.{all-full}
 use Rattle.split.specs.Marks.{marks}
 use borrow.Author.Needs.{needs}
-use Rattle.split.proofs.look.push.Statement.{statement}
-use Rattle.split.proofs.look.push.Tie as tie
+use Rattle.pairwise.proofs.push.Statement.{statement}
+use Rattle.pairwise.proofs.push.Tie as tie
 
 add-result : tie.Need-add-result
 add-result c = search needs
