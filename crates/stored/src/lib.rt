@@ -10,11 +10,11 @@ use read::number;
 
 // How many cases there are, how many of them come out as stored, the number of the first that does not (0 if there is none), and whether
 // nothing is left of the text.
-pub struct Tally {
-    pub cases: usize,
-    pub equal: usize,
-    pub first: usize,
-    pub whole: bool,
+struct Tally {
+    cases: usize,
+    equal: usize,
+    first: usize,
+    whole: bool,
 }
 
 // What was compared is as stored, up to a place in the text.
@@ -38,21 +38,21 @@ struct Asked {
     at: usize,
 }
 
-pub fn replay(
-    text: &[u8],
-    input: &mut [i32],
-    work: &mut [i32],
-    marks: &mut [i32],
-    scan: &mut [i64],
-    masks: &mut [u8],
-) -> Tally {
+// Reads a text of stored cases from standard input, runs them, and writes what comes of it. The zeros behind the text are white space.
+pub fn run_all() {
+    let mut text = [0u8; 262144];
+    io::read_full(libc::STDIN_FILENO, &mut text);
+    print(replay(&text));
+}
+
+fn replay(text: &[u8]) -> Tally {
     let head = number(text, 0);
     let cases = head.size as usize;
     let mut at = head.next;
     let mut equal: usize = 0;
     let mut first: usize = 0;
     for i in 0..cases {
-        let p = one(text, at, input, work, marks, scan, masks);
+        let p = one(text, at);
         at = p.at;
         equal = counted(equal, p.good);
         first = first_of(first, p.good, i);
@@ -88,153 +88,31 @@ fn first_of(first: usize, good: bool, i: usize) -> usize {
     i
 }
 
-// Runs the case that begins here. Each list is lent as long as the case says.
-fn one(
-    text: &[u8],
-    at: usize,
-    input: &mut [i32],
-    work: &mut [i32],
-    marks: &mut [i32],
-    scan: &mut [i64],
-    masks: &mut [u8],
-) -> Place {
+// Runs the case that begins here. There is room for an input of 2,049 segments, which are too many.
+fn one(text: &[u8], at: usize) -> Place {
     let asked = asked_at(text, at);
     let l = lengths_at(text, asked.at);
-    let i = l.input;
-    if input.len() < i {
-        return missing(text);
-    }
-    let next = load(text, l.at, &mut input[..i]);
-    with_work(
-        text,
-        next,
-        asked.settings,
-        l,
-        &input[..i],
-        work,
-        marks,
-        scan,
-        masks,
-    )
-}
-
-fn with_work(
-    text: &[u8],
-    at: usize,
-    settings: Settings,
-    l: Lengths,
-    input: &[i32],
-    work: &mut [i32],
-    marks: &mut [i32],
-    scan: &mut [i64],
-    masks: &mut [u8],
-) -> Place {
-    let k = l.work;
-    if work.len() < k {
-        return missing(text);
-    }
-    with_marks(
-        text,
-        at,
-        settings,
-        l,
-        input,
-        &mut work[..k],
-        marks,
-        scan,
-        masks,
-    )
-}
-
-fn with_marks(
-    text: &[u8],
-    at: usize,
-    settings: Settings,
-    l: Lengths,
-    input: &[i32],
-    work: &mut [i32],
-    marks: &mut [i32],
-    scan: &mut [i64],
-    masks: &mut [u8],
-) -> Place {
-    let k = l.marks;
-    if marks.len() < k {
-        return missing(text);
-    }
-    with_scan(
-        text,
-        at,
-        settings,
-        l,
-        input,
-        work,
-        &mut marks[..k],
-        scan,
-        masks,
-    )
-}
-
-fn with_scan(
-    text: &[u8],
-    at: usize,
-    settings: Settings,
-    l: Lengths,
-    input: &[i32],
-    work: &mut [i32],
-    marks: &mut [i32],
-    scan: &mut [i64],
-    masks: &mut [u8],
-) -> Place {
-    let k = l.scan;
-    if scan.len() < k {
-        return missing(text);
-    }
-    with_masks(
-        text,
-        at,
-        settings,
-        l,
-        input,
-        work,
-        marks,
-        &mut scan[..k],
-        masks,
-    )
-}
-
-fn with_masks(
-    text: &[u8],
-    at: usize,
-    settings: Settings,
-    l: Lengths,
-    input: &[i32],
-    work: &mut [i32],
-    marks: &mut [i32],
-    scan: &mut [i64],
-    masks: &mut [u8],
-) -> Place {
-    let k = l.masks;
-    if masks.len() < k {
-        return missing(text);
-    }
-    run_case(
-        text,
-        at,
-        settings,
-        input,
-        work,
-        marks,
-        scan,
-        &mut masks[..k],
-    )
-}
-
-// A list that this program does not have room for.
-fn missing(text: &[u8]) -> Place {
+    let mut input = [0i32; 12294];
+    let k = least(l.input, 12294);
+    let p = with_input(text, asked.settings, l, &mut input[..k]);
     Place {
-        at: text.len(),
-        good: false,
+        at: p.at,
+        good: (k == l.input) & p.good,
     }
+}
+
+fn with_input(text: &[u8], settings: Settings, l: Lengths, input: &mut [i32]) -> Place {
+    let next = load(text, l.at, input);
+    with_lists(text, next, settings, l, input)
+}
+
+fn least(a: usize, b: usize) -> usize
+    ensures { λ r. ⌜ r ≤ b ⌝ }
+{
+    if a < b {
+        return a;
+    }
+    b
 }
 
 fn asked_at(text: &[u8], at: usize) -> Asked {
@@ -281,7 +159,32 @@ fn load(text: &[u8], at: usize, list: &mut [i32]) -> usize {
     next
 }
 
-// Every number in the lists is 7 before the run.
+// Every number in the lists is 7 before the run. Each is lent as long as the case says; one that there is no room for is cut, and the case is not good.
+fn with_lists(text: &[u8], at: usize, settings: Settings, l: Lengths, input: &[i32]) -> Place {
+    let mut work = [7i32; 12288];
+    let mut marks = [7i32; 12288];
+    let mut scan = [7i64; 6144];
+    let mut masks = [7u8; 2048];
+    let a = least(l.work, 12288);
+    let b = least(l.marks, 12288);
+    let c = least(l.scan, 6144);
+    let d = least(l.masks, 2048);
+    let p = run_case(
+        text,
+        at,
+        settings,
+        input,
+        &mut work[..a],
+        &mut marks[..b],
+        &mut scan[..c],
+        &mut masks[..d],
+    );
+    Place {
+        at: p.at,
+        good: (a == l.work) & (b == l.marks) & (c == l.scan) & (d == l.masks) & p.good,
+    }
+}
+
 fn run_case(
     text: &[u8],
     at: usize,
@@ -292,16 +195,8 @@ fn run_case(
     scan: &mut [i64],
     masks: &mut [u8],
 ) -> Place {
-    prepare(work, marks, scan, masks);
     let r = report::of(run::overlay(input, settings, work, marks, scan, masks));
     judge(text, at, r, work, marks, scan, masks)
-}
-
-fn prepare(work: &mut [i32], marks: &mut [i32], scan: &mut [i64], masks: &mut [u8]) {
-    fill_i32(work, 7);
-    fill_i32(marks, 7);
-    fill_i64(scan, 7);
-    fill_u8(masks, 7);
 }
 
 // The answer, m and looks, then the lists.
@@ -340,10 +235,7 @@ fn compare(
     masks: &[u8],
 ) -> Place {
     let left = kept(r.answer);
-    let m = r.segments as usize;
-    if m > 2048 {
-        return missing(text);
-    }
+    let m = least(r.segments as usize, 2048);
     let p = rows(text, at, work, masks, m);
     let good = told
         & p.good
@@ -419,24 +311,6 @@ fn holds(work: &[i32], k: usize, z: i32) -> bool {
     false
 }
 
-fn fill_i32(list: &mut [i32], z: i32) {
-    for i in 0..list.len() {
-        list[i] = z;
-    }
-}
-
-fn fill_i64(list: &mut [i64], z: i64) {
-    for i in 0..list.len() {
-        list[i] = z;
-    }
-}
-
-fn fill_u8(list: &mut [u8], z: u8) {
-    for i in 0..list.len() {
-        list[i] = z;
-    }
-}
-
 fn rest_i32(list: &[i32], from: usize, z: i32) -> bool {
     let mut good = true;
     for i in from..list.len() {
@@ -462,17 +336,19 @@ fn rest_u8(list: &[u8], from: usize, z: u8) -> bool {
 }
 
 // How many cases there are and how many are equal, in a line; and what is wrong, if anything is.
-pub fn print(t: Tally) {
-    io::print_decimal(libc::STDOUT_FILENO, t.cases as u64);
-    io::write_all(libc::STDOUT_FILENO, b" cases, ");
-    io::print_decimal(libc::STDOUT_FILENO, t.equal as u64);
-    io::write_all(libc::STDOUT_FILENO, b" equal\n");
+fn print(t: Tally) {
+    tell(t.cases, b" cases, ");
+    tell(t.equal, b" equal\n");
     if t.first > 0 {
         io::write_all(libc::STDOUT_FILENO, b"the first that differs: ");
-        io::print_decimal(libc::STDOUT_FILENO, t.first as u64);
-        io::write_all(libc::STDOUT_FILENO, b"\n");
+        tell(t.first, b"\n");
     }
     if !t.whole {
         io::write_all(libc::STDOUT_FILENO, b"the text goes on behind them\n");
     }
+}
+
+fn tell(n: usize, what: &[u8]) {
+    io::print_decimal(libc::STDOUT_FILENO, n as u64);
+    io::write_all(libc::STDOUT_FILENO, what);
 }
