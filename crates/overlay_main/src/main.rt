@@ -1,7 +1,7 @@
 // The program: reads a list from standard input, runs the overlay on lists of its own, and writes the answer.
 ghost use mathlib.Core.Path.{_≡_};
 ghost use Prim.Native.Nat.{_≤_};
-ghost use Rattle.wire.specs.Put.{Put};
+ghost use Rattle.text.specs.Put.{Put};
 ghost use Rattle.ending.specs.Lent.{lent};
 ghost use Rattle.overlay_main.specs.Reply.{reply as replyOf};
 use overlay::answer::Answer;
@@ -45,8 +45,8 @@ fn reply(
     match wire::decode(bytes, input) {
         Decoded::Asked(settings) => {
             let a = run::overlay(input, settings, work, marks, scan, masks);
-            wire::text::write(a, work, masks, out)
+            text::write(a, work, masks, out)
         }
-        Decoded::Broken => wire::text::write(Answer::Short, work, masks, out),
+        Decoded::Broken => text::write(Answer::Short, work, masks, out),
     }
 }

@@ -1,4 +1,4 @@
-// The bytes that the program reads and writes, on slices: a list asked for, taken apart; an answer as text (module text).
+// The bytes that the program reads, on a slice: a list asked for, taken apart.
 ghost use mathlib.Core.Path.{_≡_};
 ghost use Prim.Native.Nat.{_+_, _*_, _≤_};
 ghost use lib.ListN.{length};
@@ -6,8 +6,6 @@ ghost use lib.Seq.{sets};
 ghost use Rattle.wire.specs.Bytes.{wordAt, signed as signedOf, numbersFrom};
 ghost use Rattle.wire.specs.Asked.{decodedAs, decodedList};
 use checks::Settings;
-
-pub mod text;
 
 pub enum Decoded {
     // Whole: what is asked. Its segments are then the first rows of the input list.

@@ -11,7 +11,7 @@ use borrow.Author.Tests.{eq-eqb, ne-eqb, le-leb, lt-leb}
 use Rattle.checks.specs.declared.Settings.{Settings}
 use Rattle.wire.specs.declared.Decoded.the-variants.{Asked, Broken}
 use Rattle.wire.specs.Bytes.{wordAt, numbersFrom}
-use Rattle.wire.specs.Asked.{isTaken, settingsOf, decodedAs, decodedList}
+use Rattle.wire.specs.Asked.{isTaken, decodedAs, decodedList}
 use borrow.Author.Needs.{needs}
 use Rattle.wire.proofs.decode.Statement.{statement}
 use Rattle.wire.proofs.decode.Tie as tie
@@ -19,6 +19,9 @@ use Rattle.wire.proofs.decode.Tie as tie
 broken : (bs : List ℕ) (input : List ℤ) → isTaken bs (length input) ≡ false → (Broken ≡ decodedAs bs (length input)) × (input ≡ decodedList bs input)
 unfolding decodedAs decodedList
 broken bs input e = (rw e, rw e)
+
+four : {n fill rule budget m f r b : ℕ} → n ≡ m → fill ≡ f → rule ≡ r → budget ≡ b → _≡_ {A = Settings} (record { n = n; fill = fill; rule = rule; budget = budget }) (record { n = m; fill = f; rule = r; budget = b })
+four p q r s = rw (p, q, r, s)
 
 module _ (bs : List ℕ) (room n : ℕ) (e : n ≡ wordAt bs 1) where
   wrong-length : (length bs ≡ 17 + 24 * n → ⊥) → isTaken bs room ≡ false
@@ -142,7 +145,7 @@ returns-6 c =
     let n = c .before .before .before .before .before .before .before .before .before .before .before .word .result in
     let e = c .before .before .before .before .before .before .before .before .before .before .before .word .ensures in
     let whole = taken-all bs room n e (c .before .before .before .before .before .before .before .before .before .before .if2 .left) (c .before .before .before .before .before .before .before .before .if3 .left) (c .before .before .before .before .before .before .before .if4 .left) (c .before .before .before .before .before .before .if5 .left) in
-    let settings : _≡_ {A = Settings} (record { n = n; fill = c .before .before .before .before .before .word2 .result; rule = c .before .before .before .before .word3 .result; budget = c .before .before .before .word4 .result }) (settingsOf bs) = cc in
+    let settings = four e (c .before .before .before .before .before .word2 .ensures) (c .before .before .before .before .word3 .ensures) (c .before .before .before .word4 .ensures) in
     (rw whole (ap Asked settings), rw whole (c .before .numbers .ensures ∙ ap (λ (k : ℕ). sets (x .input .now) 0 (numbersFrom bs 17 (6 * k))) e))
 
 pub decode-spec : {M : Type 1} → statement M

@@ -6,7 +6,7 @@ use native.Mathlib.Nat.{add-zero}
 use native.Mathlib.Omega.{arith}
 use lib.ListN.{length, set, length-append}
 use lib.Seq.{sets, length-sets, set-out}
-use Rattle.wire.specs.Put.{Put}
+use Rattle.text.specs.Put.{Put}
 
 sets-append : {A : Type 0} (xs : List A) (i : ℕ) (vs ws : List A) → sets xs i (vs ++ ws) ≡ sets (sets xs i vs) (i + length vs) ws
 sets-append xs i [] ws = rw (add-zero i)

@@ -7,8 +7,8 @@ ghost use lib.ListN.{length};
 ghost use Rattle.whole.specs.Kind.{rowAt};
 ghost use Rattle.geom.specs.Rows.{segments};
 ghost use Rattle.overlay.specs.Numbers.{told};
-ghost use Rattle.wire.specs.Put.{Put};
-ghost use Rattle.wire.specs.Text.{digitsWithin, number as numberOf, spaced, line as lineOf, linesFrom, head as headOf, written};
+ghost use Rattle.text.specs.Put.{Put};
+ghost use Rattle.text.specs.Text.{digitsWithin, number as numberOf, spaced, line as lineOf, linesFrom, head as headOf, written};
 use overlay::answer::Answer;
 
 // The text of an answer, whose rows and bytes stand at the front of the lists. How many bytes it has: at most 313,386.

@@ -3,11 +3,11 @@ use mathlib.Core.Path.{_≡_}
 use Prim.Native.Nat.{_+_, _*_, _-_, _<_, _≤_}
 use native.Mathlib.Nat.{sub-zero}
 use native.Mathlib.Omega.{arith}
-use Rattle.wire.specs.PutLaws.{Coming, coming-all, coming-step, coming-none}
-use Rattle.wire.specs.Text.{linesFrom}
-use Rattle.wire.specs.TextLaws.{lines-first}
-use Rattle.wire.proofs.text.lines.Statement.{statement}
-use Rattle.wire.proofs.text.lines.Tie as tie
+use Rattle.text.specs.PutLaws.{Coming, coming-all, coming-step, coming-none}
+use Rattle.text.specs.Text.{linesFrom}
+use Rattle.text.specs.TextLaws.{lines-first}
+use Rattle.text.proofs.lines.Statement.{statement}
+use Rattle.text.proofs.lines.Tie as tie
 
 abbrev Inv-loop : tie.InvT-loop
 Inv-loop out₀ at rows bytes m next₀ i₀ out next i =

@@ -3,11 +3,11 @@ use mathlib.Core.Path.{ap, sym}
 use mathlib.Core.List.{append-nil}
 use native.Mathlib.Omega.{arith}
 use mir.Facts.{toZ-ofZ}
-use Rattle.wire.specs.PutLaws.{put-more, put-as}
-use Rattle.wire.specs.Text.{number, spaced}
+use Rattle.text.specs.PutLaws.{put-more, put-as}
+use Rattle.text.specs.Text.{number, spaced}
 use borrow.Author.Needs.{needs}
-use Rattle.wire.proofs.text.pair.Statement.{statement}
-use Rattle.wire.proofs.text.pair.Tie as tie
+use Rattle.text.proofs.pair.Statement.{statement}
+use Rattle.text.proofs.pair.Tie as tie
 
 number-requires : tie.Need-number-requires
 number-requires c κs = search needs

@@ -1,10 +1,11 @@
 -- Laws of the text: a number's digits one by one, its sign, a line by its pairs, the first of the lines.
 use mathlib.Core.Path.{_≡_, refl, _∙_}
-use mathlib.Core.Bool.{Bool, true, false}
+use mathlib.Core.Bool.{Bool, true, false, cond}
 use mathlib.Core.List.{List, [], _∷_, _++_, append-assoc, append-nil}
 use Prim.Native.Nat.{ℕ, zero, suc, _+_, _-_, _*_, _/_, _%_, _<_, _≤_}
 use native.Mathlib.Numerals.{add-one}
 use native.Mathlib.Omega.{arith}
+use lib.Dec.{ltb}
 use lib.IntN.{ℤ, pos, negsuc, natAbs}
 use lib.ListN.{length, getD}
 use lib.Signed.{ltZ}
@@ -13,7 +14,7 @@ use Rattle.whole.specs.Kind.{rowAt}
 use Rattle.geom.specs.declared.Segment.{Segment}
 use Rattle.geom.specs.Rows.{segments}
 use Rattle.overlay.specs.Numbers.{Told, refusal}
-use Rattle.wire.specs.Text.{newline, digitsWithin, decimal, number, spaced, line, linesFrom, head, written}
+use Rattle.text.specs.Text.{newline, digitsWithin, decimal, number, spaced, line, linesFrom, head, written}
 
 -- ---- digits
 
@@ -21,17 +22,16 @@ pub digits-none : (n : ℕ) {k : ℕ} → k ≡ 0 → digitsWithin k n ≡ []
 unfolding digitsWithin
 digits-none n e = rw e
 
-pub digits-one : {k n : ℕ} → 1 ≤ k → n < 10 → digitsWithin k n ≡ (48 + n) ∷ []
+digits-some : {k : ℕ} (n : ℕ) → 1 ≤ k → digitsWithin k n ≡ cond (ltb n 10) ((48 + n) ∷ []) (digitsWithin (k - 1) (n / 10) ++ ((48 + n % 10) ∷ []))
 unfolding digitsWithin
-digits-one {k = zero} h l = absurd (omega arith)
-digits-one {k = suc k} {n} h l = rw (lt-ltb n 10 l)
+digits-some {k = zero} n h = absurd (omega arith)
+digits-some {k = suc k} n h = let e : suc k - 1 ≡ k = omega arith in rw e
+
+pub digits-one : {k n : ℕ} → 1 ≤ k → n < 10 → digitsWithin k n ≡ (48 + n) ∷ []
+digits-one {k} {n} h l = digits-some n h ∙ rw (lt-ltb n 10 l)
 
 pub digits-more : {k n : ℕ} → 1 ≤ k → 10 ≤ n → digitsWithin k n ≡ digitsWithin (k - 1) (n / 10) ++ ((48 + n % 10) ∷ [])
-unfolding digitsWithin
-digits-more {k = zero} h l = absurd (omega arith)
-digits-more {k = suc k} {n} h l =
-    let e : suc k - 1 ≡ k = omega arith in
-    rw (le-ltb n 10 l, e)
+digits-more {k} {n} h l = digits-some n h ∙ rw (le-ltb n 10 l)
 
 -- ---- numbers and lines
 

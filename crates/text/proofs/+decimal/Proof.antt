@@ -2,16 +2,16 @@
 use mathlib.Core.Path.{sym, _∙_}
 use Prim.Native.Nat.{ℕ, _<_}
 use native.Mathlib.Omega.{arith}
-use Rattle.wire.specs.PutLaws.{put-none, put-more, put-as, put-length}
-use Rattle.wire.specs.TextLaws.{digits-none, digits-one, digits-more}
+use Rattle.text.specs.PutLaws.{put-none, put-more, put-as, put-length}
+use Rattle.text.specs.TextLaws.{digits-none, digits-one, digits-more}
 use borrow.Fn.Kinds.{In}
 use borrow.Fn.PlainCycle.{Measures, is, falls, and}
-use Rattle.wire.proofs.text.decimal.Reads as decimal
-use Rattle.wire.proofs.text.decimal.Kinds as decimal-kinds
-use Rattle.wire.proofs.text.+decimal.Lts-decimal as decimal-lts
-use Rattle.wire.proofs.text.byte.Reads as byte-reads
-use Rattle.wire.proofs.text.+decimal.{statement}
-use Rattle.wire.proofs.text.+decimal.Tie.{close}
+use Rattle.text.proofs.decimal.Reads as decimal
+use Rattle.text.proofs.decimal.Kinds as decimal-kinds
+use Rattle.text.proofs.+decimal.Lts-decimal as decimal-lts
+use Rattle.text.proofs.byte.Reads as byte-reads
+use Rattle.text.proofs.+decimal.{statement}
+use Rattle.text.proofs.+decimal.Tie.{close}
 
 abbrev μ-decimal : Measures 1 decimal-kinds.ps ℕ
 μ-decimal κs a = a .1 .1 .1 .0

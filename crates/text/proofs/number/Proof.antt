@@ -5,12 +5,12 @@ use Prim.Native.Nat.{ℕ}
 use native.Mathlib.Omega.{arith}
 use lib.IntN.{natAbs}
 use mir.Facts.{toZ-ofZ}
-use Rattle.wire.specs.PutLaws.{put-more, put-as}
-use Rattle.wire.specs.Text.{decimal, number}
-use Rattle.wire.specs.TextLaws.{number-under, number-over}
+use Rattle.text.specs.PutLaws.{put-more, put-as}
+use Rattle.text.specs.Text.{decimal, number}
+use Rattle.text.specs.TextLaws.{number-under, number-over}
 use borrow.Author.Needs.{needs}
-use Rattle.wire.proofs.text.number.Statement.{statement}
-use Rattle.wire.proofs.text.number.Tie as tie
+use Rattle.text.proofs.number.Statement.{statement}
+use Rattle.text.proofs.number.Tie as tie
 
 size-requires : tie.Need-size-requires
 size-requires c κs = search needs

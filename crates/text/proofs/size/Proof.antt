@@ -12,8 +12,8 @@ use mir.Facts.{toZ-ofZ}
 use Rattle.whole.specs.Order.{zz, sub-is, split, lt-true, lt-false, mag-in}
 use Rattle.whole.specs.Sign.{abs-is}
 use Rattle.whole.specs.Fit.{widen, diff-fits}
-use Rattle.wire.proofs.text.size.Statement.{statement}
-use Rattle.wire.proofs.text.size.Tie as tie
+use Rattle.text.proofs.size.Statement.{statement}
+use Rattle.text.proofs.size.Tie as tie
 
 module _ (z : ℤ) (h : SFits w32 z) where
   wide : toZ w64 (ofZ w64 (toZ w32 (ofZ w32 z))) ≡ z

@@ -1,10 +1,10 @@
 -- One part behind the other.
 use native.Mathlib.Omega.{arith}
-use Rattle.wire.specs.PutLaws.{put-more}
-use Rattle.wire.specs.Text.{head}
+use Rattle.text.specs.PutLaws.{put-more}
+use Rattle.text.specs.Text.{head}
 use borrow.Author.Needs.{needs}
-use Rattle.wire.proofs.text.head.Statement.{statement}
-use Rattle.wire.proofs.text.head.Tie as tie
+use Rattle.text.proofs.head.Statement.{statement}
+use Rattle.text.proofs.head.Tie as tie
 
 decimal-requires : tie.Need-decimal-requires
 decimal-requires c κs = search needs

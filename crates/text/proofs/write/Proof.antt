@@ -4,12 +4,12 @@ use mathlib.Core.List.{_++_}
 use native.Mathlib.Omega.{arith}
 use Rattle.overlay.specs.Numbers.{told}
 use Rattle.report.specs.declared.Report.{Report}
-use Rattle.wire.specs.PutLaws.{put-none, put-more, put-as}
-use Rattle.wire.specs.Text.{head, linesFrom}
-use Rattle.wire.specs.TextLaws.{over-limit, few-rows, few-bytes, written-all}
+use Rattle.text.specs.PutLaws.{put-none, put-more, put-as}
+use Rattle.text.specs.Text.{head, linesFrom}
+use Rattle.text.specs.TextLaws.{over-limit, few-rows, few-bytes, written-all}
 use borrow.Author.Needs.{needs}
-use Rattle.wire.proofs.text.write.Statement.{statement}
-use Rattle.wire.proofs.text.write.Tie as tie
+use Rattle.text.proofs.write.Statement.{statement}
+use Rattle.text.proofs.write.Tie as tie
 
 of-requires : tie.Need-of-requires
 of-requires c κs = search needs

@@ -7,12 +7,12 @@ use mir.Syntax.{w32}
 use mir.Val.{SFits, toZ, ofZ}
 use mir.Facts.{toZ-ofZ}
 use Rattle.geom.specs.declared.Segment.{Segment}
-use Rattle.wire.specs.PutLaws.{put-more, put-as, put-length}
-use Rattle.wire.specs.Text.{spaced, line}
-use Rattle.wire.specs.TextLaws.{line-pairs}
+use Rattle.text.specs.PutLaws.{put-more, put-as, put-length}
+use Rattle.text.specs.Text.{spaced, line}
+use Rattle.text.specs.TextLaws.{line-pairs}
 use borrow.Author.Needs.{needs}
-use Rattle.wire.proofs.text.line.Statement.{statement}
-use Rattle.wire.proofs.text.line.Tie as tie
+use Rattle.text.proofs.line.Statement.{statement}
+use Rattle.text.proofs.line.Tie as tie
 
 read-requires : tie.Need-read-requires
 read-requires c κs = search needs

@@ -1,9 +1,9 @@
 -- The byte is stored if there is room; without room storing would change nothing.
 use mathlib.Core.Logic.{⊎-elim}
-use Rattle.wire.specs.PutLaws.{put-byte, put-no-room, put-length}
+use Rattle.text.specs.PutLaws.{put-byte, put-no-room, put-length}
 use borrow.Author.Needs.{needs}
-use Rattle.wire.proofs.text.byte.Statement.{statement}
-use Rattle.wire.proofs.text.byte.Tie as tie
+use Rattle.text.proofs.byte.Statement.{statement}
+use Rattle.text.proofs.byte.Tie as tie
 
 slice-write-out : tie.Need-slice-write-out
 slice-write-out c = search needs
