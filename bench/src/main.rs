@@ -17,6 +17,10 @@ mod rows;
 #[global_allocator]
 static COUNTING: memory::Counting = memory::Counting;
 
+/// So often a row that is counted is made ready, even if it is done fewer times: the difference of two counts is then the work alone.
+#[cfg(i_overlay)]
+const READY_TIMES: usize = 3;
+
 #[cfg(not(i_overlay))]
 fn main() {
     println!("{}", oracle::SKIPPED);
@@ -33,9 +37,12 @@ fn main() {
             let row = rows::all().into_iter().find(|row| row.name == name).expect("a row of this name");
             let [ours, theirs] = (row.make)();
             let mut part = if side == "ours" { ours } else { theirs };
-            for _ in 0..times.parse().expect("a whole number") {
+            let times = times.parse().expect("a whole number");
+            for i in 0..READY_TIMES.max(times) {
                 part.ready();
-                std::hint::black_box(part.work());
+                if i < times {
+                    std::hint::black_box(part.work());
+                }
             }
         }
         [word] => tell(word),
