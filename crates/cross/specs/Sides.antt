@@ -119,6 +119,9 @@ module _ (radius : ℕ) (t o : Segment) (s1 s2 s3 s4 : ℕ) (clear : zerosOf s1 
       let zeros = zerosOf s1 s2 s3 s4 in
       rw (ne-eqb zeros 4 (λ z. omega arith), le-ltb 1 zeros (omega arith), ne-eqb s1 s2 n, eq-eqb s3 s4 e)
 
+  pub clear-parted : Sides t o s1 s2 s3 s4 → s1 ≢ s2 → s3 ≢ s4 → Middle t o
+  clear-parted s n m = middle-of s n m (λ z. omega arith) (λ z. omega arith) (λ z. omega arith) (λ z. omega arith)
+
   pub clear-middle : s1 ≢ s2 → s3 ≢ s4 → crossBy radius t o s1 s2 s3 s4 ≡ middle radius t o (crossPoint t o)
   clear-middle n m =
       rw (by-ends radius t o s1 s2 s3 s4 (λ z. omega arith) (omega arith) n m, ne-eqb s1 1 (λ z. omega arith), ne-eqb s2 1 (λ z. omega arith), ne-eqb s3 1 (λ z. omega arith), ne-eqb s4 1 (λ z. omega arith))

@@ -1,8 +1,7 @@
 -- `cross::by_sides` meets its contract: with no end on the other's line, equal sides in a couple make nothing, and otherwise it is a middle crossing.
 use mathlib.Core.Path.{sym, _∙_}
-use native.Mathlib.Omega.{arith}
 use borrow.Author.Needs.{needs}
-use Rattle.cross.specs.Sides.{clear-other, clear-target, clear-middle, middle-of}
+use Rattle.cross.specs.Sides.{clear-other, clear-target, clear-parted, clear-middle}
 use Rattle.cross.proofs.by_sides.Statement.{statement}
 use Rattle.cross.proofs.by_sides.Tie as tie
 
@@ -33,9 +32,10 @@ returns-3 c =
 middle-requires : tie.Need-middle-requires
 middle-requires c κs =
     let e = c .before in
-    let n = e .before .if1 .left in
-    let p = e .before .before .pre in
-    (p .0, (p .1 .0, middle-of (p .1 .1) (e .if2 .left) (c .if3 .left) (λ z. omega arith) (λ z. omega arith) (λ z. omega arith) (λ z. omega arith)))
+    let s = e .before .before in
+    let x = s .args in
+    let p = s .pre in
+    (p .0, (p .1 .0, clear-parted (x .radius) (x .target) (x .other) (x .s1) (x .s2) (x .s3) (x .s4) (e .before .if1 .left) (p .1 .1) (e .if2 .left) (c .if3 .left)))
 
 returns-4 : tie.Need-returns-4
 returns-4 c =
