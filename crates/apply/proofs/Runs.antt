@@ -13,7 +13,7 @@ use Rattle.whole.specs.Total.{same-or, side}
 use Rattle.whole.specs.Test.{and-l, and-r, lt-of, lt-not, lt-gt}
 use Rattle.whole.specs.Kind.{rowAt, rowsFrom}
 use Rattle.whole.specs.KindLaws.{rows-append}
-use Rattle.whole.specs.Sum.{keep}
+use Rattle.whole.specs.Sum.{keep, keep-append}
 use Rattle.whole.specs.Sign.{lt-or-le}
 use Rattle.geom.specs.Plane.{sameZ, before}
 use Rattle.geom.specs.Tests.{when-true, when-false, fails, unless, lt?, same?}
@@ -87,15 +87,6 @@ module _ (zs : List ℤ) (p : Mark → Bool) where
   keep-whole zero i h = refl
   keep-whole (suc k) i h =
       rw (h i (omega arith) (omega arith)) (ap (λ (l : List Mark). rowAt marks zs i ∷ l) (keep-whole k (suc i) (λ j q r. h j (omega arith) (omega arith))))
-
-keep-append : (p : Mark → Bool) (K L : List Mark) → keep p (K ++ L) ≡ keep p K ++ keep p L
-unfolding keep
-keep-append p [] L = refl
-keep-append p (m ∷ K) L = by-test (p m) refl (keep-append p K L)
-  where
-    by-test : (t : Bool) → p m ≡ t → keep p (K ++ L) ≡ keep p K ++ keep p L → keep p (m ∷ (K ++ L)) ≡ keep p (m ∷ K) ++ keep p L
-    by-test true q more = rw q (ap (λ (l : List Mark). m ∷ l) more)
-    by-test false q more = rw q more
 
 -- ---- marks in order
 

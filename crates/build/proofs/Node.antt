@@ -7,7 +7,7 @@ use Prim.Native.Nat.{ℕ, _+_, _-_, _≤_, _<_}
 use native.Mathlib.Omega.{arith}
 use lib.IntN.{ℤ}
 use Rattle.whole.specs.Kind.{rowsFrom}
-use Rattle.whole.specs.Sum.{keep}
+use Rattle.whole.specs.Sum.{keep, keep-append, keep-none}
 use Rattle.whole.specs.Total.{side}
 use Rattle.geom.specs.declared.Point.{Point}
 use Rattle.geom.specs.declared.Segment.{Segment}
@@ -19,7 +19,7 @@ use Rattle.scan.specs.Masks.{live}
 use Rattle.scan.specs.Scan.{segmentAt, entriesFrom, liveAt, stays, arrivals, Known, Reached, Holds}
 use Rattle.build.specs.Sweep.{NodeEnd, Ready}
 use Rattle.scan.proofs.Walking.{reached}
-use Rattle.scan.proofs.Entries.{keep-append, keep-none, keep-keep, entries-append, all-entries}
+use Rattle.scan.proofs.Entries.{keep-keep, entries-append, all-entries}
 use Rattle.build.proofs.Order.{Upto, here, before-upto, strictly, not-yet, still, Sorted}
 
 module _ (work : List ℤ) (n : ℕ) where

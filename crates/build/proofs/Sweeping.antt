@@ -7,11 +7,11 @@ use native.Mathlib.Nat.{sub-zero}
 use native.Mathlib.Omega.{arith}
 use lib.Dec.{ltb}
 use lib.IntN.{ℤ}
-use lib.ListN.{length, set, length-map}
+use lib.ListN.{length, length-map}
 use lib.Seq.{sets, length-sets}
 use borrow.Author.Tests.{lt-ltb, le-ltb}
 use Rattle.whole.specs.Kind.{rowsFrom}
-use Rattle.whole.specs.KindLaws.{rows-append, rows-done, length-rows}
+use Rattle.whole.specs.KindLaws.{sets-append, rows-append, rows-done, length-rows}
 use Rattle.whole.specs.Sum.{All, none, all-map, all-keep, keep}
 use Rattle.geom.specs.declared.Point.{Point}
 use Rattle.geom.specs.declared.Segment.{Segment}
@@ -23,12 +23,6 @@ use Rattle.scan.proofs.Entries.{all-entry}
 use Rattle.build.proofs.Order.{in-order}
 use Rattle.scan.proofs.Node.{live-number, byte-is}
 use Rattle.build.proofs.Node.{together, at-next}
-
--- ---- lists of bytes
-
-sets-append : (ms : List ℕ) (i : ℕ) (a b : List ℕ) → sets ms i (a ++ b) ≡ sets (sets ms i a) (i + length a) b
-sets-append ms i [] b = ap (λ (k : ℕ). sets ms k b) (omega arith)
-sets-append ms i (x ∷ a) b = sets-append (set ms i x) (suc i) a b ∙ ap (λ (k : ℕ). sets (sets (set ms i x) (suc i) a) k b) (omega arith)
 
 -- two functions that agree on the k rows from i on
 rows-map : (work : List ℤ) (f g : Segment → ℕ) (i k : ℕ) → ((m : ℕ) → i ≤ m → m < i + k → f (segmentAt work m) ≡ g (segmentAt work m)) → map f (rowsFrom segments work i k) ≡ map g (rowsFrom segments work i k)

@@ -20,14 +20,6 @@ use Rattle.scan.specs.Scan.{segmentAt, entryOf, entriesFrom, named, Entr
 -- ---- what passes
 
 module _ {A : Type 0} (p : A → Bool) where
-  pub keep-yes : (t : A) (L : List A) → p t ≡ true → keep p (t ∷ L) ≡ t ∷ keep p L
-  unfolding keep
-  keep-yes t L e = rw e
-
-  pub keep-no : (t : A) (L : List A) → p t ≡ false → keep p (t ∷ L) ≡ keep p L
-  unfolding keep
-  keep-no t L e = rw e
-
   abbrev pub keeping : Pass A ℕ
   keeping = record { emit = λ s t. keep p (t ∷ []); next = λ s t. s; last = λ s. [] }
 
@@ -43,20 +35,6 @@ module _ {A : Type 0} (p : A → Bool) where
   unfolding pass keep
   pass-keep s [] = refl
   pass-keep s (t ∷ L) = ap (λ (l : List A). keep p (t ∷ []) ++ l) (pass-keep s L) ∙ keep-first t L
-
-  pub keep-append : (K L : List A) → keep p (K ++ L) ≡ keep p K ++ keep p L
-  unfolding keep
-  keep-append [] L = refl
-  keep-append (t ∷ K) L = go (p t) refl (keep-append K L)
-    where
-      go : (c : Bool) → p t ≡ c → keep p (K ++ L) ≡ keep p K ++ keep p L → keep p (t ∷ (K ++ L)) ≡ keep p (t ∷ K) ++ keep p L
-      go true e h = rw (e, h)
-      go false e h = rw (e, h)
-
-  pub keep-none : {L : List A} → All (λ t. p t ≡ false) L → keep p L ≡ []
-  unfolding keep
-  keep-none none = refl
-  keep-none (also e h) = rw e (keep-none h)
 
   -- what passes a test that is passed by whatever passes this one
   pub keep-keep : (q : A → Bool) {L : List A} → All (λ t. p t ≡ true → q t ≡ true) L → keep p (keep q L) ≡ keep p L

@@ -3,11 +3,11 @@ use mathlib.Core.Path.{_≡_, refl}
 use mathlib.Core.Bool.{Bool, true, false, cond, _||_}
 use mathlib.Core.List.{List, [], _∷_, _++_}
 use Prim.Native.Nat.{ℕ, zero, suc, _+_, _*_, _-_, _<_, _≤_}
-use native.Mathlib.Omega.{arith}
 use lib.IntN.{ℤ, pos, natAbs, _+ℤ_, _*ℤ_}
-use lib.ListN.{length, getD, take}
+use lib.ListN.{length, getD}
 use lib.Signed.{ltZ}
 use Rattle.whole.specs.Kind.{Kind, rowAt, rowsFrom, front}
+use Rattle.whole.specs.KindLaws.{three-numbered, three-short}
 use Rattle.whole.specs.Sum.{Over, ind, keep}
 use Rattle.geom.specs.declared.Point.{Point}
 use Rattle.geom.specs.declared.Segment.{Segment}
@@ -31,20 +31,8 @@ numbers t = t .segment ∷ t .subject ∷ t .clip ∷ []
 abbrev pub make : List ℤ → Entry
 make l = record { segment = getD l 0 (pos 0); subject = getD l 1 (pos 0); clip = getD l 2 (pos 0) }
 
-pub numbered : (l : List ℤ) → 3 ≤ length l → numbers (make l) ≡ take 3 l
-numbered [] h = absurd (omega arith)
-numbered (a ∷ []) h = absurd (omega arith)
-numbered (a ∷ b ∷ []) h = absurd (omega arith)
-numbered (a ∷ b ∷ c ∷ t) h = refl
-
-pub short : (l : List ℤ) → make (take 3 l) ≡ make l
-short [] = refl
-short (a ∷ []) = refl
-short (a ∷ b ∷ []) = refl
-short (a ∷ b ∷ c ∷ t) = refl
-
 abbrev pub entries : Kind Entry
-entries = record { width = 3; numbers = numbers; make = make; sized = λ t. refl; made = λ t l. refl; numbered = numbered; short = short }
+entries = record { width = 3; numbers = numbers; make = make; sized = λ t. refl; made = λ t l. refl; numbered = three-numbered; short = three-short (λ a b c. record { segment = a; subject = b; clip = c }) }
 
 -- ---- entries of a work list
 

@@ -1,16 +1,12 @@
 -- Laws of text put into a list: one text behind another (`put-more`), none, one byte.
 use mathlib.Core.Path.{_≡_, refl, sym, ap, _∙_}
 use mathlib.Core.List.{List, [], _∷_, _++_}
-use Prim.Native.Nat.{ℕ, suc, _+_, _≤_}
-use native.Mathlib.Nat.{add-zero}
+use Prim.Native.Nat.{ℕ, _+_, _≤_}
 use native.Mathlib.Omega.{arith}
 use lib.ListN.{length, set, length-append}
 use lib.Seq.{sets, length-sets, set-out}
+use Rattle.whole.specs.KindLaws.{sets-append}
 use Rattle.text.specs.Put.{Put}
-
-sets-append : {A : Type 0} (xs : List A) (i : ℕ) (vs ws : List A) → sets xs i (vs ++ ws) ≡ sets (sets xs i vs) (i + length vs) ws
-sets-append xs i [] ws = rw (add-zero i)
-sets-append xs i (v ∷ vs) ws = sets-append (set xs i v) (suc i) vs ws ∙ ap (λ (k : ℕ). sets (sets (set xs i v) (suc i) vs) k ws) (omega arith)
 
 pub put-none : {out : List ℕ} {at : ℕ} → Put out at [] at out
 put-none = record { place = omega arith; list = refl }

@@ -1,6 +1,7 @@
 -- Laws of rows in a flat list, for rows of any kind R, which each law takes first: what a stored row leaves (`row-put`, `row-other`); how rows are read one
 -- after the other (`rows-step` and `rows-done` for a loop; `length-rows`, `rows-at`, `rows-append`, `rows-same`, `rows-put` for a list); and a list with rows at
--- its front (`length-front`, `rows-front`, `row-front`, `row-past`, `drop-front`, `front-front`, `front-rows`).
+-- its front (`length-front`, `rows-front`, `row-front`, `row-past`, `drop-front`, `front-front`, `front-rows`). A kind of three numbers is made by `three-numbered` and
+-- `three-short`.
 use mathlib.Core.Path.{_≡_, refl, sym, ap, ap₂, _∙_}
 use mathlib.Core.List.{List, [], _∷_, _++_, append-assoc}
 use mathlib.Core.Logic.{_≢_, ⊎-elim}
@@ -8,7 +9,7 @@ use Prim.Native.Nat.{ℕ, zero, suc, _+_, _-_, _*_, _≤_, _<_}
 use native.Mathlib.Nat.{add-zero, not-suc-le-zero, mul-le-mul-left}
 use native.Mathlib.Numerals.{add-one}
 use native.Mathlib.Omega.{arith}
-use lib.IntN.{ℤ}
+use lib.IntN.{ℤ, pos}
 use lib.ListN.{length, getD, take, drop, set, length-append, length-drop, length-set, take-append-drop}
 use lib.Seq.{ext-getD, getD-set-same, getD-set-other, sets, sets-eq, length-sets, drop-set-lt, take-set-le, drop-at, drop-append-add, drop-drop, length-take-le, take-nil}
 use Rattle.whole.specs.Total.{same-or, side}
@@ -16,7 +17,7 @@ use Rattle.whole.specs.Kind.{Kind, rowAt, putRow, flat, rowsFrom, front}
 
 -- ---- stores
 
-sets-append : (xs : List ℤ) (i : ℕ) (vs ws : List ℤ) → sets xs i (vs ++ ws) ≡ sets (sets xs i vs) (i + length vs) ws
+pub sets-append : {A : Type 0} (xs : List A) (i : ℕ) (vs ws : List A) → sets xs i (vs ++ ws) ≡ sets (sets xs i vs) (i + length vs) ws
 sets-append xs i [] ws = rw (add-zero i)
 sets-append xs i (v ∷ vs) ws =
     let e : i + suc (length vs) ≡ suc i + length vs = omega arith in
@@ -34,6 +35,23 @@ take-drop : (k a : ℕ) (l : List ℤ) → take k (drop a l) ≡ drop a (take (a
 take-drop k zero l = let e : 0 + k ≡ k = omega arith in rw e
 take-drop k (suc a) [] = take-nil k ∙ sym (ap (drop (suc a)) (take-nil (suc a + k)))
 take-drop k (suc a) (x ∷ l) = let e : suc a + k ≡ suc (a + k) = omega arith in rw e (take-drop k a l)
+
+-- ---- rows of three numbers: what a kind of them asks of making a record
+
+pub three-numbered : (l : List ℤ) → 3 ≤ length l → getD l 0 (pos 0) ∷ getD l 1 (pos 0) ∷ getD l 2 (pos 0) ∷ [] ≡ take 3 l
+three-numbered [] h = absurd (omega arith)
+three-numbered (a ∷ []) h = absurd (omega arith)
+three-numbered (a ∷ b ∷ []) h = absurd (omega arith)
+three-numbered (a ∷ b ∷ c ∷ t) h = refl
+
+pub three-short : {A : Type 0} (f : ℤ → ℤ → ℤ → A) (l : List ℤ)
+    → f (getD (take 3 l) 0 (pos 0)) (getD (take 3 l) 1 (pos 0)) (getD (take 3 l) 2 (pos 0)) ≡ f (getD l 0 (pos 0)) (getD l 1 (pos 0)) (getD l 2 (pos 0))
+three-short f [] = refl
+three-short f (a ∷ []) = refl
+three-short f (a ∷ b ∷ []) = refl
+three-short f (a ∷ b ∷ c ∷ t) = refl
+
+-- ---- rows of any kind
 
 module _ {A : Type 0} (R : Kind A) where
   abbrev w : ℕ

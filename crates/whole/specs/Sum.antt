@@ -258,6 +258,20 @@ pub keep-no : {A : Type 0} (p : A → Bool) (t : A) (L : List A) → p t ≡ fal
 unfolding keep keep-if
 keep-no p t L e = rw e
 
+pub keep-append : {A : Type 0} (p : A → Bool) (K L : List A) → keep p (K ++ L) ≡ keep p K ++ keep p L
+unfolding keep keep-if
+keep-append p [] L = refl
+keep-append {A} p (t ∷ K) L = go (p t) (keep-append p K L)
+  where
+    go : (c : Bool) → keep p (K ++ L) ≡ keep p K ++ keep p L → keep-if c t (keep p (K ++ L)) ≡ keep-if c t (keep p K) ++ keep p L
+    go true h = ap (λ (l : List A). t ∷ l) h
+    go false h = h
+
+pub keep-none : {A : Type 0} (p : A → Bool) {L : List A} → All (λ t. p t ≡ false) L → keep p L ≡ []
+unfolding keep keep-if
+keep-none p none = refl
+keep-none p (also e h) = rw e (keep-none p h)
+
 sum-keep-if : {A : Type 0} (f : A → ℤ) (c : Bool) (t : A) (K : List A) {s : ℤ} → Sum f K ≡ s → Sum f (keep-if c t K) ≡ f t *ℤ ind c +ℤ s
 unfolding Sum keep-if
 sum-keep-if f true t K {s} e = ap (λ r. f t +ℤ r) e ∙ one-more (f t) s
