@@ -17,9 +17,8 @@ use Rattle.geom.specs.Rows.{segments}
 use Rattle.segm.specs.Forward.{forward, sorted}
 use Rattle.segm.specs.Merge.{merged}
 use Rattle.checks.specs.declared.Settings.{Settings}
-use Rattle.checks.specs.declared.Fault.the-variants.{Sound}
-use Rattle.checks.specs.Checks.{some, hasLeast, faultOf}
-use Rattle.checks.specs.Accepted.{Accepted, accepted}
+use Rattle.checks.specs.Checks.{some, hasLeast}
+use Rattle.checks.specs.Accepted.{Accepted}
 use Rattle.steps.specs.declared.Joined.{Joined}
 use Rattle.steps.specs.declared.Joined.the-variants.{Rows, TooBig}
 use Rattle.steps.specs.Joining.{joinAnswer, joinList}
@@ -31,12 +30,21 @@ use Rattle.settle.specs.Step.{looksAllowed}
 use Rattle.settle.proofs.Sound.{clear, turned-good}
 use Rattle.settle.proofs.Joining.{Merges, is-joined, is-big}
 
-module _ (input : List ℤ) (s : Settings) (work masks : ℕ) (ok : faultOf input s work masks ≡ Sound) where
+-- without the bytes, which only the sweep asks for
+pub less-bytes : {input : List ℤ} {s : Settings} {work masks : ℕ} → Accepted input s work masks → Accepted input s work (workRoom work)
+less-bytes a =
+    record {
+      roomy = record { limited = a .roomy .limited; rows = a .roomy .rows; room = a .roomy .room; bytes = omega arith };
+      in-range = a .in-range;
+      grid = a .grid;
+      long = a .long;
+      counts = a .counts;
+      balanced = a .balanced;
+    }
+
+module _ (input : List ℤ) (s : Settings) (work masks : ℕ) (yes : Accepted input s work masks) where
   abbrev L : List Segment
   L = rowsFrom segments input 0 (s .n)
-
-  abbrev yes : Accepted input s work masks
-  yes = accepted input s work masks ok
 
   pub no-least : some hasLeast L ≡ false
   no-least = clear (all-map (λ v h. rw (fails (same? (v .subject .0) _) (h subject), fails (same? (v .clip .0) _) (h clip))) (yes .counts))

@@ -7,7 +7,9 @@ ghost use Rattle.geom.specs.Rows.{segments};
 ghost use Rattle.overlay.specs.Looks.{ran};
 ghost use Rattle.checks.specs.declared.Fault.the-variants.{Sound};
 ghost use Rattle.checks.specs.Checks.{faultOf};
+ghost use Rattle.checks.specs.Accepted.{Accepted};
 ghost use Rattle.overlay.specs.Outcome.{swept, outcome};
+ghost use Rattle.settle.specs.Step.{goesOn, StillKept, unsettled};
 ghost use Rattle.ending.specs.Lent.{lent, ended};
 use checks::Fault;
 use checks::Settings;
@@ -48,15 +50,24 @@ fn run(
     requires { ⌜ faultOf (now input) settings (length (now work)) (length (now masks)) ≡ Sound ⌝ }
     ensures { λ r. ⌜ ended r (now (work .exit)) (now (marks .exit)) (now (scan .exit)) (now (masks .exit)) ≡ swept settings (lent (now (work .entry)) (now (marks .entry)) (now (scan .entry)) (now (masks .entry))) (ran (markRoom (length (now (marks .entry)))) (workRoom (length (now (work .entry)))) (settings .budget) (rowsFrom segments (now (input .entry)) 0 (settings .n))) ⌝ }
 {
-    let n = settings.n;
-    let budget = settings.budget as usize;
-    steps::begin(input, n, work);
-    let steps::Joined::Rows(m) = steps::join(work, n) else {
-        return ending::refuse(Answer::TooBig, work, marks, scan, masks);
-    };
-    match settle::looks(work, m, marks, budget) {
+    match until_settled(input, settings, work, marks) {
         Step::Settled(k, made) => ending::finish(settings, k, made, work, marks, scan, masks),
         Step::Refused(a) => ending::refuse(a, work, marks, scan, masks),
         Step::Next(_) => ending::refuse(Answer::Unsettled, work, marks, scan, masks),
     }
+}
+
+// The input turned, sorted and merged, and looked at until it is settled.
+fn until_settled(input: &[i32], settings: Settings, work: &mut [i32], marks: &mut [i32]) -> Step
+    requires { ⌜ Accepted (now input) settings (length (now work)) (workRoom (length (now work))) ⌝ }
+    ensures { λ r. ⌜ goesOn unsettled (now (work .exit)) r ≡ ran (markRoom (length (now (marks .entry)))) (workRoom (length (now (work .entry)))) (settings .budget) (rowsFrom segments (now (input .entry)) 0 (settings .n)) ⌝ }
+    ensures { λ r. ⌜ StillKept (now (work .exit)) r ⌝ }
+{
+    let n = settings.n;
+    let budget = settings.budget as usize;
+    steps::begin(input, n, work);
+    let steps::Joined::Rows(m) = steps::join(work, n) else {
+        return Step::Refused(Answer::TooBig);
+    };
+    settle::looks(work, m, marks, budget)
 }
