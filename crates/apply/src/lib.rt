@@ -137,7 +137,7 @@ fn cut_all(work: &mut [i32], n: usize, marks: &[i32], count: usize)
     while 0 < i {
         i -= 1;
         let a = run_start(marks, i, e);
-        let v = geom::read(work, i);
+        let v = places::read(work, i);
         chains::cut(work, i + a, v, &marks[3 * a..3 * e], e - a);
         e = a;
     }

@@ -78,7 +78,7 @@ fn sweep(work: &[i32], n: usize, fill: u32, rule: u32, scan: &mut [i64], masks: 
     let mut i: usize = 0;
     while i < n {
         let e = node_end(work, n, i);
-        let v = geom::read(work, i);
+        let v = places::read(work, i);
         let node = scan::nodes::arrive(work, n, scan, room, used, i, e, v.a, sorted);
         used = node.used;
         if room < used {
@@ -106,8 +106,8 @@ fn in_order(work: &[i32], n: usize) -> bool
     ensures { λ r. ⌜ r ≡ ordered (rowsFrom segments (now (work .entry)) 0 n) ⌝ }
 {
     for i in 1..n {
-        let u = geom::read(work, i - 1);
-        let v = geom::read(work, i);
+        let u = places::read(work, i - 1);
+        let v = places::read(work, i);
         if order::before(v.a, u.a) {
             return false;
         }
@@ -121,9 +121,9 @@ fn node_end(work: &[i32], n: usize, i: usize) -> usize
     requires { ⌜ i < n ⌝ }
     ensures { λ r. ⌜ NodeEnd (now (work .entry)) n i r ⌝ }
 {
-    let v = geom::read(work, i);
+    let v = places::read(work, i);
     for j in i + 1..n {
-        let t = geom::read(work, j);
+        let t = places::read(work, j);
         if order::same_point(v.a, t.a) {
             continue;
         }
@@ -154,7 +154,7 @@ fn write_bytes(
     ensures { λ _. ⌜ now (masks .exit) ≡ sets (now (masks .entry)) i (bytesBy fill rule (now (work .entry)) (rowsFrom entries (now (scan .entry)) 0 (node .used)) (rowsFrom segments (now (work .entry)) i (e - i))) ⌝ }
 {
     for k in i..e {
-        let v = geom::read(work, k);
+        let v = places::read(work, k);
         let s = scan::sums::sums_below(work, n, scan, node.used, node.known, node.sums, v);
         let byte = scan::sums::byte(fill, rule, s, v);
         masks[k] = byte;

@@ -30,7 +30,7 @@ pub fn cut(work: &mut [i32], at: usize, v: Segment, run: &[i32], size: usize)
         p = walk(work, at + g, v, p, &run[3 * g..3 * e], e - g, back);
         g = e;
     }
-    geom::write(work, at + size, piece(v, p, v.b));
+    places::write(work, at + size, piece(v, p, v.b));
 }
 
 // Where the column of mark number g ends: the marks of equal x from it on.
@@ -86,7 +86,7 @@ fn walk(
     let mut left = size;
     while 0 < left {
         let q = next_point(column, size, left, back);
-        geom::write(work, at + (size - left), piece(v, last, q));
+        places::write(work, at + (size - left), piece(v, last, q));
         last = q;
         left -= 1;
     }

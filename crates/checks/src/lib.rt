@@ -118,7 +118,7 @@ pub fn some_fault(rows: &[i32], n: usize, number: u8) -> bool
     ensures { λ r. ⌜ r ≡ some (fault number) (rowsFrom segments (now (rows .entry)) 0 n) ⌝ }
 {
     for i in 0..n {
-        if has_fault(geom::read(rows, i), number) {
+        if has_fault(places::read(rows, i), number) {
             return true;
         }
     }
@@ -129,7 +129,7 @@ fn has_fault(v: Segment, number: u8) -> bool
     ensures { λ r. ⌜ r ≡ fault number v ⌝ }
 {
     if number == 3 {
-        return !order::segment_on_grid(v);
+        return !grid::segment_on_grid(v);
     }
     if number == 4 {
         return order::same_point(v.a, v.b);
@@ -159,7 +159,7 @@ fn some_open(rows: &[i32], n: usize) -> bool
     ensures { λ r. ⌜ r ≡ isOpen (rowsFrom segments (now (rows .entry)) 0 n) ⌝ }
 {
     for i in 0..n {
-        if open_end(rows, n, geom::read(rows, i)) {
+        if open_end(rows, n, places::read(rows, i)) {
             return true;
         }
     }
@@ -196,7 +196,7 @@ fn net_at(rows: &[i32], n: usize, p: Point) -> Net
         clip: 0,
     };
     for j in 0..n {
-        let v = geom::read(rows, j);
+        let v = places::read(rows, j);
         net = counted(net, v, p);
     }
     net

@@ -237,8 +237,8 @@ pub fn crossing(target: Segment, other: Segment, radius: u64) -> Crossing
 fn both_on_grid(target: Segment, other: Segment) -> bool
     ensures { λ r. ⌜ r ≡ gridSegment target && gridSegment other ⌝ }
 {
-    if order::segment_on_grid(target) {
-        return order::segment_on_grid(other);
+    if grid::segment_on_grid(target) {
+        return grid::segment_on_grid(other);
     }
     false
 }

@@ -1,10 +1,9 @@
-// Tests of points and segments: the order of points, which points are the same, what lies on the grid.
+// Tests of points: their order, which lie between others, which are the same.
 ghost use mathlib.Core.Path.{_≡_};
 ghost use lib.Signed.{ltZ};
-ghost use Rattle.geom.specs.Plane.{onGrid, gridPoint, gridSegment, before as isBefore, between as isBetween, sameZ, samePoint};
+ghost use Rattle.geom.specs.Plane.{before as isBefore, between as isBetween, sameZ, samePoint};
 use geom::Coord;
 use geom::Point;
-use geom::Segment;
 
 pub fn less(a: Coord, b: Coord) -> bool
     ensures { λ r. ⌜ r ≡ ltZ (a .0) (b .0) ⌝ }
@@ -46,33 +45,6 @@ pub fn same_point(p: Point, q: Point) -> bool
 {
     if same(p.x, q.x) {
         return same(p.y, q.y);
-    }
-    false
-}
-
-pub fn on_grid(c: Coord) -> bool
-    ensures { λ r. ⌜ r ≡ onGrid (c .0) ⌝ }
-{
-    if c.0 < -1073741824 {
-        return false;
-    }
-    c.0 < 1073741824
-}
-
-pub fn point_on_grid(p: Point) -> bool
-    ensures { λ r. ⌜ r ≡ gridPoint p ⌝ }
-{
-    if on_grid(p.x) {
-        return on_grid(p.y);
-    }
-    false
-}
-
-pub fn segment_on_grid(v: Segment) -> bool
-    ensures { λ r. ⌜ r ≡ gridSegment v ⌝ }
-{
-    if point_on_grid(v.a) {
-        return point_on_grid(v.b);
     }
     false
 }

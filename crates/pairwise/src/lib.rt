@@ -55,9 +55,9 @@ fn pairs(work: &[i32], n: usize, radius: u64, marks: &mut [i32]) -> Looked
     let room = mark::room(marks.len());
     let mut count: usize = 0;
     'pairs: for i in 0..n {
-        let target = geom::read(work, i);
+        let target = places::read(work, i);
         for j in i + 1..n {
-            let other = geom::read(work, j);
+            let other = places::read(work, j);
             count = pair(i, j, target, other, radius, marks, room, count);
             if room < count {
                 break 'pairs;

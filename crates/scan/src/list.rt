@@ -72,7 +72,7 @@ pub(crate) fn named(work: &[i32], n: usize, t: Entry) -> Segment
     requires { ⌜ EntryOf (now work) n t ⌝ }
     ensures { λ r. ⌜ r ≡ namedBy (now (work .entry)) t ⌝ }
 {
-    geom::read(work, t.segment as usize)
+    places::read(work, t.segment as usize)
 }
 
 // The segments from i to e enter, if they are live at p.
@@ -94,7 +94,7 @@ pub(crate) fn enter(
 {
     let mut count = used;
     for k in i..e {
-        let v = geom::read(work, k);
+        let v = places::read(work, k);
         if crate::edge::is_live(v, p) {
             count = push(scan, room, count, entry_of(k, v));
             continue;

@@ -73,10 +73,10 @@ fn merge_rows(work: &mut [i32], n: usize) -> Merged
     ensures { λ r. ⌜ r ≡ answerOf (rowsFrom segments (now (work .entry)) 0 n) ⌝ }
     ensures { λ r. ⌜ now (work .exit) ≡ listOf (now (work .entry)) (rowsFrom segments (now (work .entry)) 0 n) ⌝ }
 {
-    let mut g = alone(geom::read(work, 0), false);
+    let mut g = alone(places::read(work, 0), false);
     let mut w: usize = 0;
     for i in 1..n {
-        let v = geom::read(work, i);
+        let v = places::read(work, i);
         if same_ends(g, v) {
             g = join(g, v);
             continue;
@@ -110,7 +110,7 @@ fn close(work: &mut [i32], w: usize, g: Group) -> usize
     if dropped(g) {
         return w;
     }
-    geom::write(work, w, segment_of(g));
+    places::write(work, w, segment_of(g));
     w + 1
 }
 

@@ -27,8 +27,8 @@ pub fn begin(input: &[i32], n: usize, work: &mut [i32])
     ensures { λ _. ⌜ now (work .exit) ≡ front segments (now (work .entry)) (map forwardOf (rowsFrom segments (now (input .entry)) 0 n)) ⌝ }
 {
     for i in 0..n {
-        let v = geom::read(input, i);
-        geom::write(work, i, segm::forward(v));
+        let v = places::read(input, i);
+        places::write(work, i, segm::forward(v));
     }
 }
 

@@ -64,7 +64,7 @@ fn line(out: &mut [u8], at: usize, rows: &[i32], i: usize, mask: u8) -> usize
     ensures { λ r. ⌜ Put (now (out .entry)) at (lineOf (rowAt segments (now (rows .entry)) i) mask) r (now (out .exit)) ⌝ }
     ensures { λ r. ⌜ r ≤ at + 153 ⌝ }
 {
-    let v = geom::read(rows, i);
+    let v = places::read(rows, i);
     let a = pair(out, at, v.a.x.0, v.a.y.0);
     let b = pair(out, a, v.b.x.0, v.b.y.0);
     let c = pair(out, b, v.subject.0, v.clip.0);

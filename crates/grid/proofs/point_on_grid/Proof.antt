@@ -1,9 +1,9 @@
--- `order::point_on_grid` meets its contract: the two answers of `on_grid` are the two tests of the definition.
+-- `grid::point_on_grid` meets its contract: the two answers of `on_grid` are the two tests of the definition.
 use mathlib.Core.Path.{sym, _∙_}
 use borrow.Author.Needs.{needs}
 use Rattle.geom.specs.Plane.{gridPoint}
-use Rattle.order.proofs.point_on_grid.Statement.{statement}
-use Rattle.order.proofs.point_on_grid.Tie as tie
+use Rattle.grid.proofs.point_on_grid.Statement.{statement}
+use Rattle.grid.proofs.point_on_grid.Tie as tie
 
 on-grid-requires : tie.Need-on-grid-requires
 on-grid-requires c κs = search needs

@@ -1,4 +1,4 @@
--- `geom::write` meets its contract: three times two stores, one after the other, put the six numbers of the row.
+-- `places::write` meets its contract: three times two stores, one after the other, put the six numbers of the row.
 use mathlib.Core.Path.{_≡_, ap, _∙_}
 use mathlib.Core.List.{List}
 use Prim.Native.Nat.{_+_, _*_, _<_, _^_}
@@ -9,10 +9,10 @@ use mir.Facts.{toZ-ofZ}
 use mir.Syntax.{w32}
 use mir.Val.{SFits}
 use borrow.Author.Needs.{needs}
 use Rattle.geom.specs.Rows.{two}
-use Rattle.geom.proofs.Stores.{length-two, two-thrice}
-use Rattle.geom.proofs.write.Statement.{statement}
-use Rattle.geom.proofs.write.Tie as tie
+use Rattle.places.proofs.Stores.{length-two, two-thrice}
+use Rattle.places.proofs.write.Statement.{statement}
+use Rattle.places.proofs.write.Tie as tie
 
 room : (c : tie.Start) → 6 * c .args .i + 6 < 2 ^ 64
 room c = omega arith

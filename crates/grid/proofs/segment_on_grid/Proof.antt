@@ -1,9 +1,9 @@
--- `order::segment_on_grid` meets its contract: the two answers of `point_on_grid` are the two tests of the definition.
+-- `grid::segment_on_grid` meets its contract: the two answers of `point_on_grid` are the two tests of the definition.
 use mathlib.Core.Path.{sym, _∙_}
 use borrow.Author.Needs.{needs}
 use Rattle.geom.specs.Plane.{gridSegment}
-use Rattle.order.proofs.segment_on_grid.Statement.{statement}
-use Rattle.order.proofs.segment_on_grid.Tie as tie
+use Rattle.grid.proofs.segment_on_grid.Statement.{statement}
+use Rattle.grid.proofs.segment_on_grid.Tie as tie
 
 point-on-grid-requires : tie.Need-point-on-grid-requires
 point-on-grid-requires c κs = search needs

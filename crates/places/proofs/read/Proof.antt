@@ -1,4 +1,4 @@
--- `geom::read` meets its contract: the numbers from place 6 i on are those of what is left when the first 6 i are dropped.
+-- `places::read` meets its contract: the numbers from place 6 i on are those of what is left when the first 6 i are dropped.
 use mathlib.Core.Path.{_≡_}
 use Prim.Native.Nat.{_+_, _*_}
 use native.Mathlib.Nat.{add-zero}
@@ -7,8 +7,8 @@ use lib.Seq.{getD-drop}
 use mir.Facts.{toZ-ofZ}
 use borrow.Author.Needs.{needs, sfits-of}
 use Rattle.whole.specs.Kind.{rowAt}
-use Rattle.geom.proofs.read.Statement.{statement}
-use Rattle.geom.proofs.read.Tie as tie
+use Rattle.places.proofs.read.Statement.{statement}
+use Rattle.places.proofs.read.Tie as tie
 
 mul-k : tie.Need-mul-k
 mul-k c = search needs

@@ -1,9 +1,9 @@
--- `geom::put_two` meets its contract: a store keeps the length, so the second place is there too.
+-- `places::put_two` meets its contract: a store keeps the length, so the second place is there too.
 use native.Mathlib.Omega.{arith}
 use lib.ListN.{length-set}
 use borrow.Author.Needs.{needs}
-use Rattle.geom.proofs.put_two.Statement.{statement}
-use Rattle.geom.proofs.put_two.Tie as tie
+use Rattle.places.proofs.put_two.Statement.{statement}
+use Rattle.places.proofs.put_two.Tie as tie
 
 mul-first : tie.Need-mul-first
 mul-first c = search needs

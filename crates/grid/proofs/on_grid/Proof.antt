@@ -1,11 +1,11 @@
--- `order::on_grid` meets its contract: the number is read back from its 32 bits, and each comparison is a test of the definition.
+-- `grid::on_grid` meets its contract: the number is read back from its 32 bits, and each comparison is a test of the definition.
 use mathlib.Core.Path.{_≡_}
 use mir.Syntax.{w32}
 use mir.Val.{toZ, ofZ}
 use borrow.Author.Needs.{needs}
 use Rattle.geom.specs.Plane.{onGrid}
-use Rattle.order.proofs.on_grid.Statement.{statement}
-use Rattle.order.proofs.on_grid.Tie as tie
+use Rattle.grid.proofs.on_grid.Statement.{statement}
+use Rattle.grid.proofs.on_grid.Tie as tie
 
 held : (c : tie.Start) → toZ w32 (ofZ w32 (c .args .c .0)) ≡ c .args .c .0
 held c = search needs
