@@ -1,12 +1,12 @@
 -- A loop writes the front of a list, one element a step, over any element type.
 -- Filling with v is copying from a list of v as long as the list itself. Assumes nothing.
-use mathlib.Core.Path.{_≡_, refl, ap}
+use mathlib.Core.Path.{_≡_, refl, ap, _∙_}
 use mathlib.Core.List.{List, [], _∷_, append-nil}
-use Prim.Native.Nat.{ℕ, zero, suc, _+_, _<_}
+use Prim.Native.Nat.{ℕ, zero, suc, _+_, _≤_, _<_}
 use native.Mathlib.Nat.{not-suc-le-zero, le-of-suc-le-suc}
 use native.Mathlib.Numerals.{add-one}
 use native.Mathlib.Omega.{arith}
-use lib.ListN.{length, getD, set, replicate, length-replicate, getD-replicate}
+use lib.ListN.{length, getD, set, replicate, length-set, length-replicate, getD-replicate}
 use lib.Seq.{take-all, drop-length}
 use Rattle.lists.specs.Copied.{copied}
 
@@ -34,3 +34,25 @@ module _ {A : Type 0} where
   unfolding copied
   fill-all v ys =
       rw (drop-length ys, append-nil) (take-all (length ys) (replicate (length ys) v) (omega (arith, length-replicate (length ys) v)))
+
+  -- ---- a loop that fills: what holds before each turn, when it begins, after one more, at its end
+
+  -- i places of `ys`, up to its end, hold v, and `xs` is what stands in the list now
+  pub record Filling (v : A) (ys xs : List A) (end i : ℕ) : Type 0 where
+    pub whole : end ≡ length ys
+    pub within : i ≤ end
+    pub size : length xs ≡ length ys
+    pub front : xs ≡ filled i v ys
+
+  pub filling-begins : (v : A) (ys : List A) → Filling v ys ys (length ys) 0
+  unfolding copied
+  filling-begins v ys = record { whole = refl; within = omega arith; size = refl; front = refl }
+
+  pub filling-goes-on : {v : A} {ys xs : List A} {end i : ℕ} → Filling v ys xs end i → i < end → Filling v ys (set xs i v) end (i + 1)
+  filling-goes-on {v} {ys} {xs} {end} {i} f h =
+      record { whole = f .whole; within = omega arith; size = simp length-set (f .size); front = rw (f .front, fill-more i v ys (omega arith)) }
+
+  pub filling-ends : {v : A} {ys xs : List A} {end i : ℕ} → Filling v ys xs end i → end ≤ i → xs ≡ replicate (length ys) v
+  filling-ends {v} {ys} {xs} {end} {i} f h =
+      let e : i ≡ length ys = omega arith in
+      f .front ∙ rw e (fill-all v ys)

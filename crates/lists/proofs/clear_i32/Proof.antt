@@ -1,24 +1,19 @@
--- The list is filled with zero from the front, one place a turn.
-use mathlib.Core.Path.{_≡_, refl, _∙_}
-use Prim.Native.Nat.{_≤_, _<_, _-_}
+-- `lists::clear_i32` meets its contract: the list is filled with zero from the front, one place a turn.
+use Prim.Native.Nat.{_-_}
 use native.Mathlib.Omega.{arith}
 use lib.IntN.{pos}
-use lib.ListN.{length, length-set}
-use Rattle.lists.specs.Copied.{copied}
-use Rattle.lists.proofs.Write.{filled, fill-more, fill-all}
+use Rattle.lists.proofs.Write.{Filling, filling-begins, filling-goes-on, filling-ends}
 use Rattle.lists.proofs.clear_i32.Statement.{statement}
 use Rattle.lists.proofs.clear_i32.Tie as tie
 
 abbrev Inv-loop : tie.InvT-loop
-Inv-loop numbers₀ i₀ i-end numbers i =
-    (i-end ≡ length numbers₀) × (i ≤ i-end) × (length numbers ≡ length numbers₀) × (numbers ≡ filled i (pos 0) numbers₀)
+Inv-loop numbers₀ i₀ i-end numbers i = Filling (pos 0) numbers₀ numbers i-end i
 
 abbrev μ-loop : tie.MeasureT-loop
 μ-loop numbers₀ i₀ i-end numbers i = i-end - i
 
 loop-holds : tie.Need-loop-holds Inv-loop μ-loop
-unfolding copied
-loop-holds c = (refl, omega arith, refl, refl)
+loop-holds c = filling-begins (pos 0) (c .args .numbers .now)
 
 mul-numbers : tie.Need-mul-numbers Inv-loop μ-loop
 mul-numbers c = omega arith
@@ -33,21 +28,13 @@ loop-less : tie.Need-loop-less Inv-loop μ-loop
 loop-less c = omega arith
 
 loop-again : tie.Need-loop-again Inv-loop μ-loop
-loop-again c =
-    let l = c .before .loop in
-    let numbers₀ = c .before .before .args .numbers .now in
-    let h : l .i < length numbers₀ = omega arith in
-    (refl, omega arith, simp length-set (l .inv .2), rw (l .inv .3, fill-more (l .i) (pos 0) numbers₀ h))
+loop-again c = filling-goes-on (c .before .loop .inv) (omega arith)
 
 same-length : tie.Need-same-length Inv-loop μ-loop
-same-length c = c .before .loop .inv .2
+same-length c = c .before .loop .inv .size
 
 returns : tie.Need-returns Inv-loop μ-loop
-returns c =
-    let l = c .before .loop in
-    let numbers₀ = c .before .before .args .numbers .now in
-    let e : l .i ≡ length numbers₀ = omega arith in
-    l .inv .3 ∙ rw e (fill-all (pos 0) numbers₀)
+returns c = filling-ends (c .before .loop .inv) (omega arith)
 
 pub clear-i32-spec : {M : Type 1} → statement M
 clear-i32-spec =

@@ -1,24 +1,19 @@
--- The list is filled with zero from the front, one place a turn.
-use mathlib.Core.Path.{_≡_, refl, _∙_}
-use Prim.Native.Nat.{_≤_, _<_, _-_}
+-- `lists::clear_i64` meets its contract: the list is filled with zero from the front, one place a turn.
+use Prim.Native.Nat.{_-_}
 use native.Mathlib.Omega.{arith}
 use lib.IntN.{pos}
-use lib.ListN.{length, length-set}
-use Rattle.lists.specs.Copied.{copied}
-use Rattle.lists.proofs.Write.{filled, fill-more, fill-all}
+use Rattle.lists.proofs.Write.{Filling, filling-begins, filling-goes-on, filling-ends}
 use Rattle.lists.proofs.clear_i64.Statement.{statement}
 use Rattle.lists.proofs.clear_i64.Tie as tie
 
 abbrev Inv-loop : tie.InvT-loop
-Inv-loop longs₀ i₀ i-end longs i =
-    (i-end ≡ length longs₀) × (i ≤ i-end) × (length longs ≡ length longs₀) × (longs ≡ filled i (pos 0) longs₀)
+Inv-loop longs₀ i₀ i-end longs i = Filling (pos 0) longs₀ longs i-end i
 
 abbrev μ-loop : tie.MeasureT-loop
 μ-loop longs₀ i₀ i-end longs i = i-end - i
 
 loop-holds : tie.Need-loop-holds Inv-loop μ-loop
-unfolding copied
-loop-holds c = (refl, omega arith, refl, refl)
+loop-holds c = filling-begins (pos 0) (c .args .longs .now)
 
 mul-longs : tie.Need-mul-longs Inv-loop μ-loop
 mul-longs c = omega arith
@@ -33,21 +28,13 @@ loop-less : tie.Need-loop-less Inv-loop μ-loop
 loop-less c = omega arith
 
 loop-again : tie.Need-loop-again Inv-loop μ-loop
-loop-again c =
-    let l = c .before .loop in
-    let longs₀ = c .before .before .args .longs .now in
-    let h : l .i < length longs₀ = omega arith in
-    (refl, omega arith, simp length-set (l .inv .2), rw (l .inv .3, fill-more (l .i) (pos 0) longs₀ h))
+loop-again c = filling-goes-on (c .before .loop .inv) (omega arith)
 
 same-length : tie.Need-same-length Inv-loop μ-loop
-same-length c = c .before .loop .inv .2
+same-length c = c .before .loop .inv .size
 
 returns : tie.Need-returns Inv-loop μ-loop
-returns c =
-    let l = c .before .loop in
-    let longs₀ = c .before .before .args .longs .now in
-    let e : l .i ≡ length longs₀ = omega arith in
-    l .inv .3 ∙ rw e (fill-all (pos 0) longs₀)
+returns c = filling-ends (c .before .loop .inv) (omega arith)
 
 pub clear-i64-spec : {M : Type 1} → statement M
 clear-i64-spec =

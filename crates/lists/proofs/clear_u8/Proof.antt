@@ -1,23 +1,18 @@
--- The list is filled with zero from the front, one place a turn.
-use mathlib.Core.Path.{_≡_, refl, _∙_}
-use Prim.Native.Nat.{_≤_, _<_, _-_}
+-- `lists::clear_u8` meets its contract: the list is filled with zero from the front, one place a turn.
+use Prim.Native.Nat.{_-_}
 use native.Mathlib.Omega.{arith}
-use lib.ListN.{length, length-set}
-use Rattle.lists.specs.Copied.{copied}
-use Rattle.lists.proofs.Write.{filled, fill-more, fill-all}
+use Rattle.lists.proofs.Write.{Filling, filling-begins, filling-goes-on, filling-ends}
 use Rattle.lists.proofs.clear_u8.Statement.{statement}
 use Rattle.lists.proofs.clear_u8.Tie as tie
 
 abbrev Inv-loop : tie.InvT-loop
-Inv-loop bytes₀ i₀ i-end bytes i =
-    (i-end ≡ length bytes₀) × (i ≤ i-end) × (length bytes ≡ length bytes₀) × (bytes ≡ filled i 0 bytes₀)
+Inv-loop bytes₀ i₀ i-end bytes i = Filling 0 bytes₀ bytes i-end i
 
 abbrev μ-loop : tie.MeasureT-loop
 μ-loop bytes₀ i₀ i-end bytes i = i-end - i
 
 loop-holds : tie.Need-loop-holds Inv-loop μ-loop
-unfolding copied
-loop-holds c = (refl, omega arith, refl, refl)
+loop-holds c = filling-begins 0 (c .args .bytes .now)
 
 slice-write-bytes : tie.Need-slice-write-bytes Inv-loop μ-loop
 slice-write-bytes c = omega arith
@@ -29,21 +24,13 @@ loop-less : tie.Need-loop-less Inv-loop μ-loop
 loop-less c = omega arith
 
 loop-again : tie.Need-loop-again Inv-loop μ-loop
-loop-again c =
-    let l = c .before .loop in
-    let bytes₀ = c .before .before .args .bytes .now in
-    let h : l .i < length bytes₀ = omega arith in
-    (refl, omega arith, simp length-set (l .inv .2), rw (l .inv .3, fill-more (l .i) 0 bytes₀ h))
+loop-again c = filling-goes-on (c .before .loop .inv) (omega arith)
 
 same-length : tie.Need-same-length Inv-loop μ-loop
-same-length c = c .before .loop .inv .2
+same-length c = c .before .loop .inv .size
 
 returns : tie.Need-returns Inv-loop μ-loop
-returns c =
-    let l = c .before .loop in
-    let bytes₀ = c .before .before .args .bytes .now in
-    let e : l .i ≡ length bytes₀ = omega arith in
-    l .inv .3 ∙ rw e (fill-all 0 bytes₀)
+returns c = filling-ends (c .before .loop .inv) (omega arith)
 
 pub clear-u8-spec : {M : Type 1} → statement M
 clear-u8-spec =
