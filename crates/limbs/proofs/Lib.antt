@@ -1,5 +1,2 @@
--- In reading order: halves of words; one digit of a long division; long division by a raised divisor; rounding.
+-- Halves of words and their products, and what settles two words and a quotient with its rest.
 pub mod Words
-pub mod Guess
-pub mod Long
-pub mod Rounding

@@ -7,7 +7,7 @@ use native.Mathlib.Omega.{arith}
 use Rattle.limbs.specs.Limbs.{roundedOf}
 use Rattle.limbs.specs.Nearest.{nearest-rounded}
 use Rattle.limbs.proofs.Words.{upper, lower}
-use Rattle.limbs.proofs.Long.{Raises}
+use Rattle.quotients.proofs.Long.{Raises}
 
 -- the nearest quotient is the cut one with half the divisor added
 pub half-added : (n d : ℕ) → 0 < d → roundedOf n d ≡ (n + d / 2) / d

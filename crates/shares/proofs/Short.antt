@@ -8,7 +8,7 @@ use lib.Dec.{ltb}
 use borrow.Author.Tests.{ltb-true, ltb-false}
 use Rattle.limbs.specs.declared.Quotient.{Quotient}
 use Rattle.limbs.proofs.Words.{upper, lower}
-use Rattle.limbs.proofs.Guess.{Guess, guessed, kept, at-least-one, one-less}
+use Rattle.quotients.proofs.Guess.{Guess, guessed, kept, at-least-one, one-less}
 
 abbrev pub have : ℕ → ℕ → ℕ → ℕ
 have h l d = h % upper d * 2 ^ 32 + l

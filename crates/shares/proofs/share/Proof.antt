@@ -6,7 +6,7 @@ use native.Mathlib.Nat.{mul-div-mul-right}
 use native.Mathlib.Omega.{arith}
 use borrow.Author.Needs.{needs}
 use Rattle.limbs.proofs.Words.{lower}
-use Rattle.limbs.proofs.Long.{Raises, raises}
+use Rattle.quotients.proofs.Long.{Raises, raises}
 use Rattle.shares.proofs.Halves.{half-added, room, first, high, Parts, parts, factor-short, Raised, raised}
 use Rattle.shares.proofs.share.Statement.{statement}
 use Rattle.shares.proofs.share.Tie as tie

@@ -1,11 +1,11 @@
--- `limbs::digit` meets its contract: its three answers are those of proofs/Guess.antt.
+-- `quotients::digit` meets its contract: its three answers are those of proofs/Guess.antt.
 use Prim.Native.Nat.{_+_, _*_, _/_, _%_, _^_}
 use native.Mathlib.Omega.{arith}
 use borrow.Author.Needs.{needs}
 use Rattle.limbs.proofs.Words.{upper, lower}
-use Rattle.limbs.proofs.Guess.{Guess, guessed, kept, at-least-one, one-less, at-least-two, two-less}
-use Rattle.limbs.proofs.digit.Statement.{statement}
-use Rattle.limbs.proofs.digit.Tie as tie
+use Rattle.quotients.proofs.Guess.{Guess, guessed, kept, at-least-one, one-less, at-least-two, two-less}
+use Rattle.quotients.proofs.digit.Statement.{statement}
+use Rattle.quotients.proofs.digit.Tie as tie
 
 guess : (c : tie.Start) → let h = c .args .h in let l = c .args .l in let d = c .args .d in Guess (h * 2 ^ 32 + l) d (h / upper d) (h % upper d * 2 ^ 32 + l) (h / upper d * lower d)
 guess c = guessed (c .args .h) (c .args .l) (c .args .d) (c .pre .0) (c .fits .d .fits) (c .pre .1) (c .pre .2)

@@ -1,11 +1,11 @@
--- `limbs::divide` meets its contract: the upper digit's rest goes on to the lower digit, and the two digits make the quotient.
+-- `quotients::divide` meets its contract: the upper digit's rest goes on to the lower digit, and the two digits make the quotient.
 use Prim.Native.Nat.{_+_, _*_, _^_, _<_}
 use native.Mathlib.Omega.{arith}
 use borrow.Author.Needs.{needs}
 use Rattle.limbs.proofs.Words.{upper, lower, Divided, quotient-is, quotient-divided}
-use Rattle.limbs.proofs.Long.{one-digit, two-digits}
-use Rattle.limbs.proofs.divide.Statement.{statement}
-use Rattle.limbs.proofs.divide.Tie as tie
+use Rattle.quotients.proofs.Long.{one-digit, two-digits}
+use Rattle.quotients.proofs.divide.Statement.{statement}
+use Rattle.quotients.proofs.divide.Tie as tie
 
 first : (c : tie.After-digit) → let x = c .before .before .args in Divided (x .n .high * 2 ^ 32 + upper (x .n .low)) (x .d) (c .digit .result .whole) (c .digit .result .rest)
 first c = let p = c .before .before .pre in quotient-divided _ _ _ (omega arith) (c .digit .ensures)

@@ -1,11 +1,11 @@
--- `limbs::rounded` meets its contract: a rest of half the divisor, or more, counts up.
+-- `quotients::rounded` meets its contract: a rest of half the divisor, or more, counts up.
 use mathlib.Core.Path.{sym}
 use native.Mathlib.Omega.{arith}
 use borrow.Author.Needs.{needs}
 use Rattle.limbs.specs.Nearest.{answer-whole, answer-large}
-use Rattle.limbs.proofs.Rounding.{down, up}
-use Rattle.limbs.proofs.rounded.Statement.{statement}
-use Rattle.limbs.proofs.rounded.Tie as tie
+use Rattle.quotients.proofs.Rounding.{down, up}
+use Rattle.quotients.proofs.rounded.Statement.{statement}
+use Rattle.quotients.proofs.rounded.Tie as tie
 
 sub-if1 : tie.Need-sub-if1
 sub-if1 c = search needs

@@ -1,17 +1,17 @@
--- `limbs::nearest` meets its contract. A number of one word is divided by the machine; one of two words is divided after it and the divisor are raised by one factor,
+-- `quotients::nearest` meets its contract. A number of one word is divided by the machine; one of two words is divided after it and the divisor are raised by one factor,
 -- which the nearest does not see.
 use mathlib.Core.Path.{_≡_, sym, _∙_}
 use Prim.Native.Nat.{_+_, _*_, _/_, _%_, _<_}
 use native.Mathlib.Nat.{div-add-mod', mod-lt}
 use native.Mathlib.Omega.{arith}
 use Rattle.limbs.specs.Limbs.{two-value, value}
 use Rattle.limbs.specs.Nearest.{answer-none}
 use Rattle.limbs.proofs.Words.{one-word, Divided, quotient-divided}
-use Rattle.limbs.proofs.Long.{stays-below, Raises, raises, room}
-use Rattle.limbs.proofs.Rounding.{too-high, raised-alike}
+use Rattle.quotients.proofs.Long.{stays-below, Raises, raises, room}
+use Rattle.quotients.proofs.Rounding.{too-high, raised-alike}
 use borrow.Author.Needs.{needs}
-use Rattle.limbs.proofs.nearest.Statement.{statement}
-use Rattle.limbs.proofs.nearest.Tie as tie
+use Rattle.quotients.proofs.nearest.Statement.{statement}
+use Rattle.quotients.proofs.nearest.Tie as tie
 
 some : (c : tie.Else1) → 0 < c .before .args .d
 some c = omega arith

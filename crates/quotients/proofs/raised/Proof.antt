@@ -1,13 +1,13 @@
--- `limbs::raised` meets its contract: the low word's multiple carries less than the factor into the high word's.
+-- `quotients::raised` meets its contract: the low word's multiple carries less than the factor into the high word's.
 use mathlib.Core.Path.{_≡_}
 use Prim.Native.Nat.{_*_, _<_}
 use native.Mathlib.Omega.{arith}
 use borrow.Author.Needs.{needs}
 use Rattle.limbs.specs.Limbs.{two-value, value}
 use Rattle.limbs.proofs.Words.{two-is}
-use Rattle.limbs.proofs.Long.{carry-below, carry-over}
-use Rattle.limbs.proofs.raised.Statement.{statement}
-use Rattle.limbs.proofs.raised.Tie as tie
+use Rattle.quotients.proofs.Long.{carry-below, carry-over}
+use Rattle.quotients.proofs.raised.Statement.{statement}
+use Rattle.quotients.proofs.raised.Tie as tie
 
 carried : (c : tie.After-product) → value (c .product .result) ≡ c .before .args .n .low * c .before .args .f
 carried c = two-value (c .product .result) _ (c .product .ensures)
