@@ -96,7 +96,7 @@ fn point_from(pair: &[i32], k: usize) -> Point
 fn reported(target: Segment, other: Segment) -> CrossReport
     ensures { λ r. ⌜ r ≡ reportOf (crossSaid 2 target other) ⌝ }
 {
-    match cross::cross(target, other, 2) {
+    match pairs::cross(target, other, 2) {
         Crossing::Found(c) => found(target, other, c),
         Crossing::Nothing => plain(0),
         Crossing::OffGrid => plain(3),
@@ -126,7 +126,7 @@ fn found(target: Segment, other: Segment, c: Cross) -> CrossReport
         Kind::Pure => at(1, c.point, c.rounded, 0),
         Kind::TargetEnd => at(2, c.point, c.rounded, 0),
         Kind::OtherEnd => at(3, c.point, c.rounded, 0),
-        Kind::Overlay => at(4, c.point, c.rounded, cross::collinear(target, other)),
+        Kind::Overlay => at(4, c.point, c.rounded, lines::collinear(target, other)),
     }
 }
 

@@ -90,7 +90,7 @@ fn pair(
     requires { ⌜ j < 2 ^ 31 ⌝ }
     ensures { λ r. ⌜ Added markRows room count (now (marks .entry)) (pairMarks radius i j target other) r (now (marks .exit)) ⌝ }
 {
-    if cross::one_side(target, other) {
+    if misses::one_side(target, other) {
         return count;
     }
     crossed(i, j, target, other, radius, marks, room, count)
@@ -115,7 +115,7 @@ fn crossed(
     requires { ⌜ j < 2 ^ 31 ⌝ }
     ensures { λ r. ⌜ Added markRows room count (now (marks .entry)) (pairMarks radius i j target other) r (now (marks .exit)) ⌝ }
 {
-    let Crossing::Found(c) = cross::crossing(target, other, radius) else {
+    let Crossing::Found(c) = crossings::crossing(target, other, radius) else {
         return count;
     };
     let p = c.point;
@@ -147,7 +147,7 @@ fn overlay(
     requires { ⌜ j < 2 ^ 31 ⌝ }
     ensures { λ r. ⌜ Added markRows room count (now (marks .entry)) (lineMarks i j target other) r (now (marks .exit)) ⌝ }
 {
-    let mask = cross::collinear(target, other);
+    let mask = lines::collinear(target, other);
     let c1 = push_if(mask % 2 == 1, marks, room, count, j, target.a);
     let c2 = push_if(mask / 2 % 2 == 1, marks, room, c1, j, target.b);
     let c3 = push_if(mask / 4 % 2 == 1, marks, room, c2, i, other.a);
