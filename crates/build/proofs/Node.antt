@@ -13,9 +13,9 @@ use Rattle.geom.specs.declared.Point.{Point}
 use Rattle.geom.specs.declared.Segment.{Segment}
 use Rattle.geom.specs.Plane.{Before}
 use Rattle.geom.specs.Rows.{segments}
+use Rattle.edges.specs.Below.{live}
 use Rattle.scan.specs.declared.list.Entry.{Entry}
 use Rattle.scan.specs.declared.nodes.Node.{Node}
-use Rattle.scan.specs.Masks.{live}
 use Rattle.scan.specs.Scan.{segmentAt, entriesFrom, liveAt, stays, arrivals, Known, Reached, Holds}
 use Rattle.build.specs.Sweep.{NodeEnd, Ready}
 use Rattle.scan.proofs.Walking.{reached}

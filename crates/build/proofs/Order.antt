@@ -18,7 +18,7 @@ use Rattle.geom.specs.Order.{Order, sooner, equal, later, order, before-trans, 
 use Rattle.geom.specs.Plane.{Before, by-x, by-y, before, samePoint}
 use Rattle.geom.specs.Rows.{segments}
 use Rattle.geom.specs.Tests.{before?, samePoint?, holds, fails, when-false}
-use Rattle.scan.specs.Masks.{live}
+use Rattle.edges.specs.Below.{live}
 use Rattle.scan.specs.Scan.{segmentAt}
 use Rattle.build.specs.Sweep.{ordered}
 

@@ -16,7 +16,8 @@ use Rattle.whole.specs.Sum.{All, none, all-map, all-keep, keep}
 use Rattle.geom.specs.declared.Point.{Point}
 use Rattle.geom.specs.declared.Segment.{Segment}
 use Rattle.geom.specs.Rows.{segments}
-use Rattle.scan.specs.Masks.{live, byteOf, bytes, crowdedFrom, crowded}
+use Rattle.edges.specs.Below.{live}
+use Rattle.scan.specs.Masks.{byteOf, bytes, crowdedFrom, crowded}
 use Rattle.scan.specs.Scan.{entries, segmentAt, entriesFrom, EntryOf, liveAt, sumsOf, byteBy, arrivals, Holds}
 use Rattle.build.specs.Sweep.{bytesBy, ordered, NodeEnd, Swept}
 use Rattle.scan.proofs.Entries.{all-entry}

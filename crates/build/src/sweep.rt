@@ -156,7 +156,7 @@ fn write_bytes(
     for k in i..e {
         let v = places::read(work, k);
         let s = scan::sums::sums_below(work, n, scan, node.used, node.known, node.sums, v);
-        let byte = scan::sums::byte(fill, rule, s, v);
+        let byte = masks::byte(fill, rule, s, v);
         masks[k] = byte;
     }
 }

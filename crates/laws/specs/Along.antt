@@ -14,7 +14,8 @@ use Rattle.geom.specs.declared.Point.{Point}
 use Rattle.geom.specs.declared.Segment.{Segment}
 use Rattle.geom.specs.Plane.{against, by-x, subject, clip}
 use Rattle.segm.specs.Balance.{Balanced}
-use Rattle.scan.specs.Masks.{alive, bottom}
+use Rattle.edges.specs.Below.{alive}
+use Rattle.scan.specs.Masks.{bottom}
 use Rattle.laws.specs.Sides.{reaches, below-end, bottom-end}
 use Rattle.laws.specs.Points.{runs}
 use Rattle.laws.specs.Boundary.{region}

@@ -12,7 +12,8 @@ use Rattle.whole.specs.Sum.{all-of, Over, over-same}
 use Rattle.whole.specs.Test.{and-l, and-r, and-same, tests, lt-of, le-of, eqZ-true, eqZ-false}
 use Rattle.geom.specs.declared.Segment.{Segment}
 use Rattle.geom.specs.Plane.{against, Before, by-x, by-y, upright}
-use Rattle.scan.specs.Masks.{alive, lean, lower, under, below, bottom}
+use Rattle.edges.specs.Below.{alive, lean, lower, under, below}
+use Rattle.scan.specs.Masks.{bottom}
 
 -- ---- by the sign of the height
 pub lower-level : {h : ℤ} (s : ℤ) → h ≡ pos 0 → lower h s ≡ ltZ (pos 0) s

@@ -15,7 +15,8 @@ use Rattle.geom.specs.Plane.{against, sameZ, Before, by-y}
 use Rattle.geom.specs.Off.{Off, cross, On, rising}
 use Rattle.plane.specs.Apart.{Apart}
 use Rattle.segm.specs.Balance.{Balanced}
-use Rattle.scan.specs.Masks.{alive, lean, lower, bottom, top}
+use Rattle.edges.specs.Below.{alive, lean, lower}
+use Rattle.scan.specs.Masks.{bottom, top}
 use Rattle.laws.specs.Sides.{reaches, below-end, below-left, left-side}
 use Rattle.laws.specs.Ray.{alive-at, crossed, ray}
 use Rattle.laws.specs.Points.{runs}

@@ -15,7 +15,7 @@ use Rattle.geom.specs.declared.Point.{Point}
 use Rattle.geom.specs.declared.Segment.{Segment}
 use Rattle.geom.specs.Plane.{turn, against, sameZ, Before, by-x, by-y}
 use Rattle.segm.specs.Balance.{Balanced}
-use Rattle.scan.specs.Masks.{alive}
+use Rattle.edges.specs.Below.{alive}
 use Rattle.laws.specs.Sides.{reaches}
 use Rattle.laws.specs.Boundary.{region}
 use Rattle.laws.specs.Along.{moved}

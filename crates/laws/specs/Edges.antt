@@ -7,7 +7,8 @@ use lib.IntN.{ℤ, pos, negsuc}
 use Rattle.whole.specs.Sum.{Sum, Over}
 use Rattle.geom.specs.declared.Segment.{Segment}
 use Rattle.geom.specs.Plane.{point, segment, subject, clip, count, upright, turn}
-use Rattle.scan.specs.Masks.{alive, lean, lower, under, below, bottom, top}
+use Rattle.edges.specs.Below.{alive, lean, lower, under, below}
+use Rattle.scan.specs.Masks.{bottom, top}
 
 abbrev edge : ℕ → ℕ → ℕ → ℕ → ℤ → ℤ → Segment
 edge ax ay bx «by» s c = segment (point (pos ax) (pos ay)) (point (pos bx) (pos «by»)) s c

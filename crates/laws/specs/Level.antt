@@ -17,7 +17,7 @@ use Rattle.geom.specs.declared.Segment.{Segment}
 use Rattle.geom.specs.Plane.{segment, turn, against, Before, by-x}
 use Rattle.geom.specs.Off.{Off, cross, On, Within, rising, falling}
 use Rattle.plane.specs.Apart.{Apart, o₁, o₂}
-use Rattle.scan.specs.Masks.{lower}
+use Rattle.edges.specs.Below.{lower}
 use Rattle.laws.specs.Points.{runs}
 use Rattle.laws.specs.Place.{Place, level, over-e, under-e, up-l, up-r, dn-l, dn-r, placed, lean-is, pull-dn, pull-dn′, pull-up, pull-up′, gap, weak}
 use Rattle.laws.specs.Below.{lean-up, lower-up, lower-dn}

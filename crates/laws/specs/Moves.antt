@@ -17,7 +17,7 @@ use Rattle.geom.specs.Plane.{turn, against, sameZ, Before}
 use Rattle.geom.specs.Off.{Off, cross, On, rising}
 use Rattle.plane.specs.Turns.{grid, cross-grid}
 use Rattle.segm.specs.Balance.{Balanced}
-use Rattle.scan.specs.Masks.{alive, lean}
+use Rattle.edges.specs.Below.{alive, lean}
 use Rattle.laws.specs.Sides.{reaches, below-end}
 use Rattle.laws.specs.Ray.{alive-at, crossed, ray}
 use Rattle.laws.specs.Below.{lowerAt}

@@ -19,7 +19,7 @@ use Rattle.geom.specs.Plane.{turn, against, samePoint, Before, by-x, by-y}
 use Rattle.plane.specs.Order.{point-eq, before-irr, before-trans}
 use Rattle.plane.specs.Turns.{turn-self, turn-end, turn-cyclic}
 use Rattle.plane.specs.Apart.{UpTo, OneSide, OneZero, Apart, in-line, off-e, off-f, at-ends, apart-sym, o₁, o₂}
-use Rattle.scan.specs.Masks.{alive, lean, lower}
+use Rattle.edges.specs.Below.{alive, lean, lower}
 use Rattle.laws.specs.Sides.{reaches, below-end}
 use Rattle.laws.specs.Points.{point-of, point-yes, point-no, never-upto, then-upto, runs}
 use Rattle.laws.specs.Place.{cut-a, cut-b, lean-is, lean-neg, left-A, up-B}

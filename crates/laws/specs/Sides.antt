@@ -7,7 +7,7 @@ use lib.Signed.{leZ, ltZ}
 use Rattle.whole.specs.Sum.{Sum, Over}
 use Rattle.geom.specs.declared.Segment.{Segment}
 use Rattle.geom.specs.Plane.{against, clip, count, turn}
-use Rattle.scan.specs.Masks.{lean, lower}
+use Rattle.edges.specs.Below.{lean, lower}
 use Rattle.laws.specs.Edges.{running, standing, edges}
 
 -- t is not upright and runs just left of x: t.a.x < x <= t.b.x

@@ -17,7 +17,8 @@ use Rattle.segm.specs.Balance.{Balanced, balanced}
 use Rattle.segm.specs.BalanceLaws.{balanced-test}
 use Rattle.split.specs.declared.answer.Mark.{Mark}
 use Rattle.split.specs.Chain.{split}
-use Rattle.scan.specs.Masks.{below, bottom, top, live}
+use Rattle.edges.specs.Below.{below, live}
+use Rattle.scan.specs.Masks.{bottom, top}
 use Rattle.laws.specs.Sides.{bottom-end, left-side}
 use Rattle.laws.specs.Ray.{ray}
 use Rattle.laws.specs.Boundary.{∂, balanced-is, region}

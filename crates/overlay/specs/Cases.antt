@@ -23,7 +23,8 @@ use Rattle.split.specs.Look.{one, lineMarks, kindMarks, crossMarks, marksWith, 
 use Rattle.split.specs.Chain.{pointsOf, addTo, columns, nextY, lastOf, chainFrom, chain, piecesFrom, splitFrom}
 use Rattle.rules.specs.Inside.{inside}
 use Rattle.rules.specs.Keep.{kept}
-use Rattle.scan.specs.Masks.{alive, lean, lower, under, below, bottom, top, live, maskOf, byteOf, crowdedFrom}
+use Rattle.edges.specs.Below.{alive, lean, lower, under, below, live}
+use Rattle.scan.specs.Masks.{bottom, top, maskOf, byteOf, crowdedFrom}
 use Rattle.checks.specs.declared.Settings.{Settings}
 use Rattle.checks.specs.Checks.{isShort, isBad, some, faultOf}
 use Rattle.overlay.specs.Numbers.{refusal, answer0}

@@ -15,7 +15,8 @@ use Rattle.geom.specs.Tests.{Decides, said, lt?}
 use Rattle.whole.specs.Decide.{or, below?}
 use Rattle.segm.specs.Merge.{groups, isFar, anyFar, tooBig}
 use Rattle.split.specs.Look.{look, tidy}
-use Rattle.scan.specs.Masks.{live, crowdedFrom, crowded}
+use Rattle.edges.specs.Below.{live}
+use Rattle.scan.specs.Masks.{crowdedFrom, crowded}
 use Rattle.checks.specs.Checks.{some}
 use Rattle.checks.specs.Exactly.{Has, has?}
 use Rattle.overlay.specs.Looks.{radius}

@@ -15,9 +15,9 @@ use Rattle.whole.specs.Ring.{ring, reads}
 use Rattle.whole.specs.Sum.{Sum, Over, ind, assoc, add-zero, sum-append}
 use Rattle.geom.specs.declared.Segment.{Segment}
 use Rattle.geom.specs.Plane.{Side, subject, clip}
+use Rattle.edges.specs.Below.{below}
 use Rattle.scan.specs.declared.list.Entry.{Entry}
 use Rattle.scan.specs.declared.sums.Sums.{Sums}
-use Rattle.scan.specs.Masks.{below}
 use Rattle.scan.specs.Scan.{entries, named, EntryOf, amount, part, noSums, addIf, sumsOf, Reached}
 
 pub pair-eq : {r s : Sums} → ((k : Side) → part k r ≡ part k s) → r ≡ s

@@ -1,4 +1,3 @@
-pub mod Under
 pub mod Entries
 pub mod Adding
 pub mod Walking

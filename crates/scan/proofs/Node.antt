@@ -11,8 +11,9 @@ use Rattle.geom.specs.declared.Point.{Point}
 use Rattle.geom.specs.declared.Segment.{Segment}
 use Rattle.geom.specs.Plane.{Side, subject, clip, count}
 use Rattle.geom.specs.Rows.{segments}
+use Rattle.edges.specs.Below.{live, below}
 use Rattle.scan.specs.declared.list.Entry.{Entry}
-use Rattle.scan.specs.Masks.{live, below, bottom, top, maskOf, byteOf}
+use Rattle.scan.specs.Masks.{bottom, top, maskOf, byteOf}
 use Rattle.scan.specs.Live.{live-below}
 use Rattle.scan.specs.Scan.{segmentAt, entryOf, entriesFrom, named, liveAt, amount, sumOf, sumsOf, sideBy, maskBy, byteBy}
 use Rattle.scan.proofs.Entries.{length-keep-map, all-entries, by-entries}

@@ -17,15 +17,15 @@ use Rattle.whole.specs.Test.{neither, or-false}
 use Rattle.geom.specs.declared.Point.{Point}
 use Rattle.geom.specs.declared.Segment.{Segment}
 use Rattle.geom.specs.Plane.{Side, subject, clip}
+use Rattle.edges.specs.declared.Height.{Height}
+use Rattle.edges.specs.Below.{live, below, heightAt}
+use Rattle.edges.proofs.Under.{passing}
 use Rattle.scan.specs.declared.list.Entry.{Entry}
-use Rattle.scan.specs.declared.edge.Height.{Height}
 use Rattle.scan.specs.declared.nodes.Below.{Below}
 use Rattle.scan.specs.declared.sums.Sums.{Sums}
-use Rattle.scan.specs.Masks.{live, below}
-use Rattle.scan.specs.Scan.{entries, named, entriesFrom, liveAt, amount, part, noSums, sumsOf, heightAt, passesUnder, someThrough, sumsAt, withEntry, stays, arrivals, Staying, Known, Reached, Holds}
+use Rattle.scan.specs.Scan.{entries, named, entriesFrom, liveAt, amount, part, noSums, sumsOf, passesUnder, someThrough, sumsAt, withEntry, stays, arrivals, Staying, Known, Reached, Holds}
 use Rattle.scan.proofs.Entries.{keeping, pass-keep}
 use Rattle.scan.proofs.Adding.{pair-eq, Adding, adding-start, adding-step, adding-done}
-use Rattle.scan.proofs.Under.{passing}
 
 -- ---- the pass
 

@@ -13,7 +13,8 @@ use Rattle.whole.specs.Test.{of-true, and-l, and-r, tests, lt-of, le-of}
 use Rattle.geom.specs.declared.Segment.{Segment}
 use Rattle.geom.specs.Plane.{turn, against, Before, by-x, by-y, before, upright}
 use Rattle.geom.specs.Tests.{before?, fails}
-use Rattle.scan.specs.Masks.{alive, lean, lower, under, below, bottom, live}
+use Rattle.edges.specs.Below.{alive, lean, lower, under, below, live}
+use Rattle.scan.specs.Masks.{bottom}
 
 lower-dn : {h : ℤ} (s : ℤ) → h <ℤ pos 0 → lower h s ≡ false
 unfolding lower

@@ -5,23 +5,22 @@ use mathlib.Core.List.{List, [], _∷_, _++_}
 use Prim.Native.Nat.{ℕ, zero, suc, _+_, _*_, _-_, _<_, _≤_}
 use lib.IntN.{ℤ, pos, natAbs, _+ℤ_, _*ℤ_}
 use lib.ListN.{length, getD}
-use lib.Signed.{ltZ}
 use Rattle.whole.specs.Kind.{Kind, rowAt, rowsFrom, front}
 use Rattle.whole.specs.KindLaws.{three-numbered, three-short}
 use Rattle.whole.specs.Sum.{Over, ind, keep}
 use Rattle.geom.specs.declared.Point.{Point}
 use Rattle.geom.specs.declared.Segment.{Segment}
-use Rattle.geom.specs.Plane.{Side, subject, clip, GridSegment, sameZ, upright, against}
+use Rattle.geom.specs.Plane.{Side, subject, clip, GridSegment}
 use Rattle.geom.specs.Rows.{segments}
+use Rattle.rules.specs.Inside.{inside}
+use Rattle.rules.specs.Keep.{flag, kept}
+use Rattle.edges.specs.declared.Height.{Height}
+use Rattle.edges.specs.Below.{live, below, heightAt}
 use Rattle.scan.specs.declared.list.Entry.{Entry}
 use Rattle.scan.specs.declared.sums.Sums.{Sums}
-use Rattle.scan.specs.declared.edge.Height.{Height}
 use Rattle.scan.specs.declared.nodes.Below.{Below}
 use Rattle.scan.specs.declared.nodes.Stayed.{Stayed}
 use Rattle.scan.specs.declared.nodes.Node.{Node}
-use Rattle.rules.specs.Inside.{inside}
-use Rattle.rules.specs.Keep.{flag, kept}
-use Rattle.scan.specs.Masks.{live, below}
 
 -- ---- entries as rows
 
@@ -90,13 +89,6 @@ pub record Reached (work : List ℤ) (e : Segment) (xs : List ℤ) (k : ℕ) (s 
   pub near : (side : Side) → natAbs (part side s) ≤ k * 2147483648
 
 -- ---- the sums at a point: of entries that are live there they are those below every edge that starts there, unless one of the entries passes through the point
-
-abbrev pub heightAt : Segment → Point → Height
-heightAt t p = record { over = ltZ (pos 0) (against t p); level = sameZ (against t p) (pos 0) }
-
--- whether t lies under e, where e.a lies on t's line
-abbrev pub underAt : Segment → Segment → Bool
-underAt t e = cond (upright e) true (ltZ (pos 0) (against t (e .b)))
 
 abbrev pub passesUnder : List ℤ → Point → Entry → Bool
 passesUnder work p t = heightAt (named work t) p .over

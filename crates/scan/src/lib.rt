@@ -1,6 +1,5 @@
-// The scan list of the sweep: which edges are live at a node, what lies below an edge, and the edge's byte.
+// The scan list of the sweep: the edges that are live at a node, and the sums of those that lie below an edge.
 
-mod edge;
 pub mod list;
 pub mod nodes;
 pub mod sums;

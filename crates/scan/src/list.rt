@@ -95,7 +95,7 @@ pub(crate) fn enter(
     let mut count = used;
     for k in i..e {
         let v = places::read(work, k);
-        if crate::edge::is_live(v, p) {
+        if edges::is_live(v, p) {
             count = push(scan, room, count, entry_of(k, v));
             continue;
         }

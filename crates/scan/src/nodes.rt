@@ -7,9 +7,9 @@ ghost use Rattle.whole.specs.Kind.{rowsFrom};
 ghost use Rattle.whole.specs.Sum.{All};
 ghost use Rattle.geom.specs.Plane.{GridPoint};
 ghost use Rattle.scan.specs.Scan.{entries, EntryOf, OnGrids, withEntry, nodeOf, stays, arrivals, Staying, Known, Holds};
-use crate::edge::Height;
 use crate::list::Entry;
 use crate::sums::Sums;
+use edges::Height;
 use geom::Point;
 
 // What a node leaves: so many entries in use, and the sums of the first of them below every edge that starts here.
@@ -59,10 +59,10 @@ fn stay(work: &[i32], n: usize, scan: &mut [i64], used: usize, p: Point) -> Stay
     for k in 0..used {
         let t = crate::list::entry_at(scan, k);
         let v = crate::list::named(work, n, t);
-        if crate::edge::is_live(v, p) {
+        if edges::is_live(v, p) {
             crate::list::put(scan, left, t);
             left += 1;
-            b = with_entry(crate::edge::height_at(v, p), b, t);
+            b = with_entry(edges::height_at(v, p), b, t);
             continue;
         }
     }

@@ -1,6 +1,6 @@
-// The sums below an edge, read off the scan list, and the edge's byte.
+// The sums below an edge, read off the scan list.
 ghost use mathlib.Core.Path.{_≡_};
-ghost use Prim.Native.Nat.{_+_, _-_, _*_, _≤_, _<_};
+ghost use Prim.Native.Nat.{_*_, _≤_};
 ghost use lib.ListN.{length};
 ghost use lib.IntN.{_+ℤ_, _*ℤ_, natAbs};
 ghost use mir.Syntax.{w64};
@@ -8,10 +8,8 @@ ghost use mir.Val.{SFits};
 ghost use Rattle.whole.specs.Kind.{rowsFrom};
 ghost use Rattle.whole.specs.Sum.{All, ind};
 ghost use Rattle.geom.specs.Plane.{GridSegment};
-ghost use Rattle.rules.specs.Keep.{flag};
-ghost use Rattle.scan.specs.Scan.{entries, EntryOf, OnGrids, noSums, addIf, sumsOf, Reached, sideBy, maskBy, byteBy};
+ghost use Rattle.scan.specs.Scan.{entries, EntryOf, OnGrids, noSums, addIf, sumsOf, Reached};
 use crate::list::Entry;
-use geom::Count;
 use geom::Segment;
 
 pub struct Sums {
@@ -78,55 +76,8 @@ pub fn sums_below(
     for k in known..used {
         let t = crate::list::entry_at(scan, k);
         let v = crate::list::named(work, n, t);
-        let hit = crate::edge::is_below(v, e);
+        let hit = edges::is_below(v, e);
         sum = add_if(hit, sum, t);
     }
     sum
-}
-
-fn bit_if(hit: bool, value: u8) -> u8
-    ensures { λ r. ⌜ r ≡ value * flag hit ⌝ }
-{
-    if hit {
-        return value;
-    }
-    0
-}
-
-// The two bits of one side: 1 where it is inside on top, 2 at the bottom.
-fn side_bits(fill: u32, bottom: i64, count: Count) -> u8
-    requires { ⌜ SFits w64 (bottom +ℤ count .0) ⌝ }
-    ensures { λ r. ⌜ r ≡ sideBy fill bottom (count .0) ⌝ }
-    ensures { λ r. ⌜ r < 4 ⌝ }
-{
-    let top = plus(bottom, turns::wide(count.0));
-    let a = bit_if(rules::inside::inside(fill, top), 1);
-    let b = bit_if(rules::inside::inside(fill, bottom), 2);
-    a + b
-}
-
-// The mask of e, with these sums at its bottom.
-fn mask(fill: u32, s: Sums, e: Segment) -> u8
-    requires { ⌜ SFits w64 (s .subject +ℤ e .subject .0) ⌝ }
-    requires { ⌜ SFits w64 (s .clip +ℤ e .clip .0) ⌝ }
-    ensures { λ r. ⌜ r ≡ maskBy fill s e ⌝ }
-    ensures { λ r. ⌜ r < 16 ⌝ }
-{
-    let subject = side_bits(fill, s.subject, e.subject);
-    let clip = side_bits(fill, s.clip, e.clip);
-    subject + 4 * clip
-}
-
-// A kept edge's byte has 16 added.
-pub fn byte(fill: u32, rule: u32, s: Sums, e: Segment) -> u8
-    requires { ⌜ rule < 7 ⌝ }
-    requires { ⌜ SFits w64 (s .subject +ℤ e .subject .0) ⌝ }
-    requires { ⌜ SFits w64 (s .clip +ℤ e .clip .0) ⌝ }
-    ensures { λ r. ⌜ r ≡ byteBy fill rule s e ⌝ }
-{
-    let m = mask(fill, s, e);
-    if rules::keep::keeps(rule, m) {
-        return m + 16;
-    }
-    m
 }

@@ -5,7 +5,7 @@ use native.Mathlib.Omega.{arith}
 use borrow.Author.Needs.{needs}
 use Rattle.whole.specs.AppendLaws.{Coming, coming-all, coming-step, coming-none}
 use Rattle.whole.specs.Sum.{keep, keep-yes, keep-no}
-use Rattle.scan.specs.Masks.{live}
+use Rattle.edges.specs.Below.{live}
 use Rattle.scan.specs.Scan.{entries, segmentAt, entryOf, entriesFrom, liveAt}
 use Rattle.scan.proofs.Entries.{entries-step, entries-done}
 use Rattle.scan.proofs.list.enter.Statement.{statement}

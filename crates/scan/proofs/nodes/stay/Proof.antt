@@ -9,10 +9,10 @@ use mir.Val.{SFits}
 use borrow.Author.Needs.{needs, sfits-of}
 use Rattle.geom.specs.declared.Segment.{Segment}
 use Rattle.geom.specs.Plane.{Side, subject, clip}
+use Rattle.edges.specs.Below.{live, heightAt}
 use Rattle.scan.specs.declared.list.Entry.{Entry}
 use Rattle.scan.specs.declared.sums.Sums.{Sums}
-use Rattle.scan.specs.Masks.{live}
-use Rattle.scan.specs.Scan.{entries, named, EntryOf, liveAt, amount, heightAt}
+use Rattle.scan.specs.Scan.{entries, named, EntryOf, liveAt, amount}
 use Rattle.scan.proofs.Entries.{all-row}
 use Rattle.scan.proofs.Adding.{small-entry}
 use Rattle.scan.proofs.Walking.{Walking, walking-start, walking-yes, walking-no, walked}

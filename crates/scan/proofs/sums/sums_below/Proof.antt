@@ -11,8 +11,8 @@ use Rattle.whole.specs.Kind.{rowsFrom}
 use Rattle.whole.specs.KindLaws.{rows-step, rows-done}
 use Rattle.geom.specs.declared.Segment.{Segment}
 use Rattle.geom.specs.Plane.{Side, subject, clip}
+use Rattle.edges.specs.Below.{below}
 use Rattle.scan.specs.declared.list.Entry.{Entry}
-use Rattle.scan.specs.Masks.{below}
 use Rattle.scan.specs.Scan.{entries, named, EntryOf, amount}
 use Rattle.scan.proofs.Entries.{all-row}
 use Rattle.scan.proofs.Adding.{Adding, adding-from, adding-step, sums-done, small-entry}
