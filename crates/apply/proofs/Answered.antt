@@ -11,7 +11,7 @@ use Rattle.whole.specs.Kind.{rowsFrom, front}
 use Rattle.whole.specs.KindLaws.{sets-front}
 use Rattle.geom.specs.Limits.{workRoom, markRoom}
 use Rattle.geom.specs.Rows.{segments}
-use Rattle.checks.specs.Checks.{some, hasLeast}
+use Rattle.faults.specs.Faults.{some, hasLeast}
 use Rattle.split.specs.Marks.{marks}
 use Rattle.split.specs.Chain.{split}
 use Rattle.apply.specs.declared.Applied.the-variants.{Pieces, Short, BadCount, Full}

@@ -11,7 +11,7 @@ use Rattle.geom.specs.declared.Segment.{Segment}
 use Rattle.geom.specs.Plane.{before}
 use Rattle.geom.specs.Limits.{workRoom, markRoom}
 use Rattle.geom.specs.Rows.{segments}
-use Rattle.checks.specs.Checks.{some, hasLeast}
+use Rattle.faults.specs.Faults.{some, hasLeast}
 use Rattle.split.specs.declared.answer.Mark.{Mark}
 use Rattle.split.specs.Marks.{marks}
 use Rattle.split.specs.Chain.{split}

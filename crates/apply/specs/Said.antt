@@ -9,7 +9,7 @@ use lib.ListN.{length}
 use Rattle.whole.specs.Kind.{rowsFrom}
 use Rattle.geom.specs.Limits.{workRoom, markRoom}
 use Rattle.geom.specs.Rows.{segments}
-use Rattle.checks.specs.Checks.{some, fault}
+use Rattle.faults.specs.Faults.{some, fault}
 use Rattle.split.specs.Marks.{marks}
 use Rattle.split.specs.Said.{Said, only, done}
 use Rattle.apply.specs.declared.Applied.{Applied}

@@ -11,7 +11,7 @@ ghost use lib.Signed.{ltZ};
 ghost use Rattle.whole.specs.Kind.{rowAt, rowsFrom, flat};
 ghost use Rattle.geom.specs.Plane.{sameZ};
 ghost use Rattle.geom.specs.Rows.{segments};
-ghost use Rattle.checks.specs.Checks.{some, hasLeast};
+ghost use Rattle.faults.specs.Faults.{some, hasLeast};
 ghost use Rattle.split.specs.Marks.{marks as markRows};
 ghost use Rattle.split.specs.Chain.{split as splitOf};
 ghost use Rattle.apply.specs.Answer.{names as namesOf, earlier as isEarlier, leads as leadsTo, inOrder, applyAnswer, applyList};
@@ -37,7 +37,7 @@ pub fn apply(work: &mut [i32], n: usize, marks: &[i32], count: usize) -> Applied
     ensures { λ r. ⌜ applySays r ≡ applySaid (now (work .entry)) n (now (marks .entry)) count ⌝ }
     ensures { λ r. ⌜ now (work .exit) ≡ applyList r (now (work .entry)) n (now (marks .entry)) count ⌝ }
 {
-    let room = checks::work_room(work.len());
+    let room = rooms::work_room(work.len());
     if room < n {
         return Applied::Short;
     }
@@ -45,7 +45,7 @@ pub fn apply(work: &mut [i32], n: usize, marks: &[i32], count: usize) -> Applied
         return Applied::Short;
     }
     if in_order(marks, count, n) {
-        if checks::some_fault(work, n, 5) {
+        if faults::some_fault(work, n, 5) {
             return Applied::BadCount;
         }
         if room < n + count {

@@ -15,8 +15,8 @@ use Rattle.geom.specs.declared.Segment.{Segment}
 use Rattle.geom.specs.Limits.{segmentLimit, scanRoom}
 use Rattle.geom.specs.Rows.{segments}
 use Rattle.build.specs.declared.sweep.Filled.the-variants.{Done, Short, BadRule, OffGrid, NoLength, BadCount, ScanFull}
-use Rattle.checks.specs.Checks.{some, isOff, isPoint, hasLeast}
-use Rattle.checks.proofs.Some.{each-on-grid}
+use Rattle.faults.specs.Faults.{some, isOff, isPoint, hasLeast}
+use Rattle.faults.proofs.Some.{each-on-grid}
 use Rattle.scan.specs.Masks.{byteOf, bytes}
 use Rattle.scan.specs.Scan.{OnGrids}
 use Rattle.build.specs.Sweep.{Swept}

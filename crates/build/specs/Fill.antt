@@ -13,7 +13,7 @@ use Rattle.geom.specs.Limits.{segmentLimit, scanRoom}
 use Rattle.geom.specs.Rows.{segments}
 use Rattle.build.specs.declared.sweep.Filled.{Filled}
 use Rattle.build.specs.declared.sweep.Filled.the-variants.{Done, Short, BadRule, OffGrid, NoLength, BadCount, ScanFull}
-use Rattle.checks.specs.Checks.{some, isOff, isPoint, hasLeast}
+use Rattle.faults.specs.Faults.{some, isOff, isPoint, hasLeast}
 use Rattle.scan.specs.Masks.{bytes, crowded}
 
 -- ---- the refusals that change nothing; 3 to 5 are those of the checks

@@ -46,13 +46,13 @@ pub fn fill(
     if crate::check::is_bad(fill, rule) {
         return Filled::BadRule;
     }
-    if checks::some_fault(work, n, 3) {
+    if faults::some_fault(work, n, 3) {
         return Filled::OffGrid;
     }
-    if checks::some_fault(work, n, 4) {
+    if faults::some_fault(work, n, 4) {
         return Filled::NoLength;
     }
-    if checks::some_fault(work, n, 5) {
+    if faults::some_fault(work, n, 5) {
         return Filled::BadCount;
     }
     lists::clear_u8(masks);

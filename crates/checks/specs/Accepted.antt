@@ -18,9 +18,10 @@ use Rattle.geom.specs.Rows.{segments}
 use Rattle.geom.specs.Tests.{fails, when-true, when-false, gridSegment?}
 use Rattle.segm.specs.Balance.{Balanced, balanced}
 use Rattle.segm.specs.BalanceLaws.{uneven?, balanced-test}
+use Rattle.faults.specs.Faults.{some, isOff}
 use Rattle.checks.specs.declared.Fault.the-variants.{Sound}
 use Rattle.checks.specs.declared.Settings.{Settings}
-use Rattle.checks.specs.Checks.{isShort, some, isOff, faultOf}
+use Rattle.checks.specs.Checks.{isShort, faultOf}
 use Rattle.checks.specs.Exactly.{TooShort, OutOfRange, Has, OpenOutline, CoordinateOutside, short?, has?, off?, exactly}
 
 -- 1

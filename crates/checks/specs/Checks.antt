@@ -1,16 +1,15 @@
--- Refusals 1 to 6 ("Input and answer"), as tests, and which of them is given.
-use mathlib.Core.Bool.{Bool, false, not, cond, _||_}
-use mathlib.Core.List.{List, [], _∷_}
+-- Refusals 1 to 6 ("Input and answer"), and which of them is given: 1 and 2 here, 3 to 5 are faults of one segment, 6 of the whole list.
+use mathlib.Core.Bool.{Bool, cond, _||_}
+use mathlib.Core.List.{List}
 use Prim.Native.Nat.{ℕ, _*_}
 use lib.Dec.{ltb, eqb}
-use lib.IntN.{ℤ, negsuc}
+use lib.IntN.{ℤ}
 use lib.ListN.{length}
 use Rattle.whole.specs.Kind.{rowsFrom}
-use Rattle.geom.specs.declared.Segment.{Segment}
-use Rattle.geom.specs.Plane.{sameZ, samePoint, gridSegment}
 use Rattle.geom.specs.Limits.{segmentLimit, workRoom}
 use Rattle.geom.specs.Rows.{segments}
-use Rattle.segm.specs.Balance.{closed}
+use Rattle.faults.specs.Faults.{some, isOff, isPoint, hasLeast, fault}
+use Rattle.outlines.specs.Open.{isOpen}
 use Rattle.checks.specs.declared.Fault.{Fault}
 use Rattle.checks.specs.declared.Fault.the-variants.{Sound, Short, BadSettings, OffGrid, NoLength, BadCount, Open}
 use Rattle.checks.specs.declared.Settings.{Settings}
@@ -22,31 +21,6 @@ isShort n input work masks = (ltb segmentLimit n || ltb input (6 * n)) || (ltb (
 -- 2
 unfoldable pub isBad : Settings → Bool
 isBad s = (ltb 3 (s .fill) || ltb 6 (s .rule)) || (eqb (s .budget) 0 || ltb 64 (s .budget))
-
--- some segment has the fault
-unfoldable pub some : (Segment → Bool) → List Segment → Bool
-some has [] = false
-some has (v ∷ L) = has v || some has L
-
--- 3
-abbrev pub isOff : Segment → Bool
-isOff v = not (gridSegment v)
-
--- 4
-abbrev pub isPoint : Segment → Bool
-isPoint v = samePoint (v .a) (v .b)
-
--- 5
-abbrev pub hasLeast : Segment → Bool
-hasLeast v = sameZ (v .subject .0) (negsuc 2147483647) || sameZ (v .clip .0) (negsuc 2147483647)
-
--- these three by their numbers
-abbrev pub fault : ℕ → Segment → Bool
-fault k = cond (eqb k 3) isOff (cond (eqb k 4) isPoint hasLeast)
-
--- 6
-abbrev pub isOpen : List Segment → Bool
-isOpen L = not (closed L)
 
 -- 1 to 6 in order, each over all segments before the next; the lengths of the work list and the masks
 unfoldable pub faultOf : List ℤ → Settings → ℕ → ℕ → Fault

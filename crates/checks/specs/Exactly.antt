@@ -19,10 +19,12 @@ use Rattle.geom.specs.Tests.{Decides, yes, no, holds, fails, said, lt?, same?, 
 use Rattle.whole.specs.Decide.{or, below?, equal?}
 use Rattle.segm.specs.Balance.{balanced, closed}
 use Rattle.segm.specs.BalanceLaws.{Uneven, uneven?}
+use Rattle.faults.specs.Faults.{some, isOff, isPoint, hasLeast}
+use Rattle.outlines.specs.Open.{isOpen}
 use Rattle.checks.specs.declared.Fault.{Fault}
 use Rattle.checks.specs.declared.Fault.the-variants.{Sound, Short, BadSettings, OffGrid, NoLength, BadCount, Open}
 use Rattle.checks.specs.declared.Settings.{Settings}
-use Rattle.checks.specs.Checks.{isShort, isBad, some, isOff, isPoint, hasLeast, isOpen, faultOf, checkSays, checkSaid}
+use Rattle.checks.specs.Checks.{isShort, isBad, faultOf, checkSays, checkSaid}
 
 -- ---- the sentences
 

@@ -1,6 +1,4 @@
--- In reading order: the checks and their order; the same in the words of the table; what an input without a fault has; the net count by which the code
--- tests 6.
+-- In reading order: the checks and their order; the same in the words of the table; what an input without a fault has.
 pub mod Checks
 pub mod Exactly
 pub mod Accepted
-pub mod Net

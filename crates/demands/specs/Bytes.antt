@@ -14,7 +14,7 @@ use Rattle.whole.specs.Total.{clash}
 use Rattle.geom.specs.declared.Segment.{Segment}
 use Rattle.geom.specs.Plane.{Side, subject, clip, count}
 use Rattle.segm.specs.Balance.{Balanced}
-use Rattle.rules.specs.Inside.{inside}
+use Rattle.fills.specs.Inside.{inside}
 use Rattle.rules.specs.Keep.{flag, truth, bit, kept, sign}
 use Rattle.rules.specs.KeepLaws.{dropped-by-sign, sign-of-dropped}
 use Rattle.scan.specs.Masks.{bottom, top, maskOf, byteOf}

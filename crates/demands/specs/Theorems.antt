@@ -22,7 +22,7 @@ use Rattle.segm.specs.Forward.{forward as turned-forward, sorted}
 use Rattle.segm.specs.Merge.{tooBig}
 use Rattle.segm.specs.Order.{EndsBefore}
 use Rattle.segm.specs.Balance.{Balanced}
-use Rattle.rules.specs.Inside.{inside}
+use Rattle.fills.specs.Inside.{inside}
 use Rattle.rules.specs.Keep.{bit, sign}
 use Rattle.rules.specs.KeepLaws.{Algebra, of-signs}
 use Rattle.scan.specs.Masks.{bottom, top, maskOf}

@@ -26,8 +26,8 @@ fn side_bits(fill: u32, bottom: i64, count: Count) -> u8
     ensures { λ r. ⌜ r < 4 ⌝ }
 {
     let top = bottom + turns::wide(count.0);
-    let a = bit_if(rules::inside::inside(fill, top), 1);
-    let b = bit_if(rules::inside::inside(fill, bottom), 2);
+    let a = bit_if(fills::inside(fill, top), 1);
+    let b = bit_if(fills::inside(fill, bottom), 2);
     a + b
 }
 
@@ -51,7 +51,7 @@ pub fn byte(fill: u32, rule: u32, s: Sums, e: Segment) -> u8
     ensures { λ r. ⌜ r ≡ byteBy fill rule s e ⌝ }
 {
     let m = mask(fill, s, e);
-    if rules::keep::keeps(rule, m) {
+    if rules::keeps(rule, m) {
         return m + 16;
     }
     m

@@ -21,12 +21,13 @@ use Rattle.cross.specs.Cross.{inner, collinearMask, level, nearest, quotient, c
 use Rattle.cross.specs.Said.{Said, crossSaid}
 use Rattle.split.specs.Look.{one, lineMarks, kindMarks, crossMarks, marksWith, lookFrom, sameMark, tidy}
 use Rattle.split.specs.Chain.{pointsOf, addTo, columns, nextY, lastOf, chainFrom, chain, piecesFrom, splitFrom}
-use Rattle.rules.specs.Inside.{inside}
+use Rattle.fills.specs.Inside.{inside}
 use Rattle.rules.specs.Keep.{kept}
 use Rattle.edges.specs.Below.{alive, lean, lower, under, below, live}
 use Rattle.scan.specs.Masks.{bottom, top, maskOf, byteOf, crowdedFrom}
+use Rattle.faults.specs.Faults.{some}
 use Rattle.checks.specs.declared.Settings.{Settings}
-use Rattle.checks.specs.Checks.{isShort, isBad, some, faultOf}
+use Rattle.checks.specs.Checks.{isShort, isBad, faultOf}
 use Rattle.overlay.specs.Numbers.{refusal, answer0}
 use Rattle.overlay.specs.Looks.{radius, joined, lookAt, looksFrom, ran}
 use Rattle.overlay.specs.Outcome.{Lent, Outcome, finished, swept, unless, outcome}

@@ -17,7 +17,7 @@ use Rattle.segm.specs.Merge.{groups, isFar, anyFar, tooBig}
 use Rattle.split.specs.Look.{look, tidy}
 use Rattle.edges.specs.Below.{live}
 use Rattle.scan.specs.Masks.{crowdedFrom, crowded}
-use Rattle.checks.specs.Checks.{some}
+use Rattle.faults.specs.Faults.{some}
 use Rattle.checks.specs.Exactly.{Has, has?}
 use Rattle.overlay.specs.Looks.{radius}
 

@@ -9,7 +9,7 @@ ghost use Rattle.whole.specs.Kind.{rowsFrom};
 ghost use Rattle.geom.specs.Limits.{markRoom};
 ghost use Rattle.geom.specs.Plane.{GridSegment};
 ghost use Rattle.geom.specs.Rows.{segments};
-ghost use Rattle.checks.specs.Checks.{some, isOff};
+ghost use Rattle.faults.specs.Faults.{some, isOff};
 ghost use Rattle.split.specs.Marks.{marks as markRows};
 ghost use Rattle.split.specs.Look.{mark as markAt, one, lineMarks, pairMarks, look as marksOf};
 ghost use Rattle.split.specs.Looked.{counted, lookAnswer};
@@ -35,10 +35,10 @@ pub fn look(work: &[i32], n: usize, radius: u64, marks: &mut [i32]) -> Looked
     if work.len() < 6 * n {
         return Looked::Short;
     }
-    if checks::some_fault(work, n, 3) {
+    if faults::some_fault(work, n, 3) {
         return Looked::OffGrid;
     }
-    if checks::some_fault(work, n, 4) {
+    if faults::some_fault(work, n, 4) {
         return Looked::NoLength;
     }
     pairs(work, n, radius, marks)

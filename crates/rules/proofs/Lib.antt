@@ -1,2 +1,1 @@
-pub mod Parity
 pub mod Exclude

@@ -1,5 +1,3 @@
--- In reading order: the fill rules; the overlay rules and what they keep; the decision a user is given; the laws of the rules.
-pub mod Inside
+-- In reading order: the overlay rules and what they keep; their laws.
 pub mod Keep
-pub mod Decision
 pub mod KeepLaws

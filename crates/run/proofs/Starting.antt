@@ -17,7 +17,7 @@ use Rattle.geom.specs.Rows.{segments}
 use Rattle.segm.specs.Forward.{forward, sorted}
 use Rattle.segm.specs.Merge.{merged}
 use Rattle.checks.specs.declared.Settings.{Settings}
-use Rattle.checks.specs.Checks.{some, hasLeast}
+use Rattle.faults.specs.Faults.{some, hasLeast}
 use Rattle.checks.specs.Accepted.{Accepted}
 use Rattle.steps.specs.declared.Joined.{Joined}
 use Rattle.steps.specs.declared.Joined.the-variants.{Rows, TooBig}

@@ -8,7 +8,7 @@ use lib.IntN.{ℤ, _+ℤ_}
 use Rattle.whole.specs.Sum.{Over, keep}
 use Rattle.geom.specs.declared.Segment.{Segment}
 use Rattle.geom.specs.Plane.{subject, clip, count}
-use Rattle.rules.specs.Inside.{inside}
+use Rattle.fills.specs.Inside.{inside}
 use Rattle.rules.specs.Keep.{flag, kept}
 use Rattle.edges.specs.Below.{below, live}
 

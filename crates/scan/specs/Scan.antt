@@ -12,7 +12,7 @@ use Rattle.geom.specs.declared.Point.{Point}
 use Rattle.geom.specs.declared.Segment.{Segment}
 use Rattle.geom.specs.Plane.{Side, subject, clip, GridSegment}
 use Rattle.geom.specs.Rows.{segments}
-use Rattle.rules.specs.Inside.{inside}
+use Rattle.fills.specs.Inside.{inside}
 use Rattle.rules.specs.Keep.{flag, kept}
 use Rattle.edges.specs.declared.Height.{Height}
 use Rattle.edges.specs.Below.{live, below, heightAt}

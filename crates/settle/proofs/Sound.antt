@@ -15,7 +15,7 @@ use Rattle.segm.specs.Forward.{forward, inOrder, sorted}
 use Rattle.segm.specs.ForwardLaws.{forward-grid, forward-runs}
 use Rattle.segm.specs.Merge.{merged, tooBig}
 use Rattle.segm.specs.MergeLaws.{merged-ends, merged-near}
-use Rattle.checks.specs.Checks.{some, isOff, isPoint, hasLeast}
+use Rattle.faults.specs.Faults.{some, isOff, isPoint, hasLeast}
 use Rattle.demands.specs.Pieces.{Good}
 use Rattle.settle.specs.Kept.{Sound}
 

@@ -11,7 +11,7 @@ use Rattle.geom.specs.Rows.{segments}
 use Rattle.split.specs.declared.answer.Looked.{Looked}
 use Rattle.split.specs.declared.answer.Looked.the-variants.{Marks, Short, OffGrid, NoLength, MarksFull}
 use Rattle.split.specs.declared.answer.Mark.{Mark}
-use Rattle.checks.specs.Checks.{some, isOff, isPoint}
+use Rattle.faults.specs.Faults.{some, isOff, isPoint}
 use Rattle.split.specs.Look.{look}
 
 -- 7 exactly if the look yields more marks, repeats counted, than the list has room for

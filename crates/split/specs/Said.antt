@@ -9,7 +9,7 @@ use lib.ListN.{length}
 use Rattle.whole.specs.Kind.{rowsFrom}
 use Rattle.geom.specs.Limits.{segmentLimit, markRoom}
 use Rattle.geom.specs.Rows.{segments}
-use Rattle.checks.specs.Checks.{some, fault}
+use Rattle.faults.specs.Faults.{some, fault}
 use Rattle.split.specs.declared.answer.Looked.{Looked}
 use Rattle.split.specs.declared.answer.Looked.the-variants.{Marks, Short, OffGrid, NoLength, MarksFull}
 use Rattle.split.specs.declared.answer.Tidied.{Tidied}

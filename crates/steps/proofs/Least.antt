@@ -18,8 +18,8 @@ use Rattle.geom.specs.Plane.{sameZ, Countable}
 use Rattle.geom.specs.Tests.{when-false, same?}
 use Rattle.geom.specs.Rows.{segments}
 use Rattle.whole.specs.Test.{neither}
-use Rattle.checks.specs.Checks.{some, hasLeast}
-use Rattle.checks.proofs.Some.{clean-at}
+use Rattle.faults.specs.Faults.{some, hasLeast}
+use Rattle.faults.proofs.Some.{clean-at}
 
 negates : (c : Count) → SFits w32 (c .0) → sameZ (c .0) (negsuc 2147483647) ≡ false → Countable c
 negates c f h =

@@ -9,7 +9,7 @@ ghost use Rattle.whole.specs.Kind.{rowsFrom, front};
 ghost use Rattle.geom.specs.Limits.{segmentLimit};
 ghost use Rattle.geom.specs.Rows.{segments};
 ghost use Rattle.segm.specs.Forward.{forward as forwardOf};
-ghost use Rattle.checks.specs.Checks.{some, hasLeast};
+ghost use Rattle.faults.specs.Faults.{some, hasLeast};
 ghost use Rattle.steps.specs.Joining.{joinAnswer, joinList};
 use segm::Merged;
 

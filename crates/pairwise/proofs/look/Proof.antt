@@ -9,7 +9,7 @@ use lib.Dec.{ltb}
 use lib.ListN.{length}
 use Rattle.whole.specs.Kind.{rowsFrom}
 use Rattle.geom.specs.Rows.{segments}
-use Rattle.checks.specs.Checks.{some, isOff}
+use Rattle.faults.specs.Faults.{some, isOff}
 use Rattle.split.specs.Looked.{lookAnswer}
 use Rattle.pairwise.specs.Listed.{lookList}
 use Rattle.split.specs.Said.{also-looked}

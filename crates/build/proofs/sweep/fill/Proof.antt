@@ -8,7 +8,7 @@ use lib.ListN.{length, length-replicate}
 use Rattle.whole.specs.Kind.{rowsFrom}
 use Rattle.whole.specs.KindLaws.{length-rows}
 use Rattle.geom.specs.Rows.{segments}
-use Rattle.checks.specs.Checks.{some, isOff, isPoint}
+use Rattle.faults.specs.Faults.{some, isOff, isPoint}
 use Rattle.build.specs.Fill.{isShort, isBad, swept, fillSaid}
 use Rattle.build.proofs.Filling.{long, a-rule, on-grids, refused-1, refused-2, refused-3, refused-4, refused-5, not-refused, left-full, left-bytes}
 use Rattle.build.proofs.sweep.fill.Statement.{statement}

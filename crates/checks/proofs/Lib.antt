@@ -1,3 +1,0 @@
-pub mod Some
-pub mod Tally
-pub mod Ends
