@@ -41,7 +41,7 @@ pub fn apply(work: &mut [i32], n: usize, marks: &[i32], count: usize) -> Applied
     if room < n {
         return Applied::Short;
     }
-    if mark::room(marks.len()) < count {
+    if rooms::mark_room(marks.len()) < count {
         return Applied::Short;
     }
     if in_order(marks, count, n) {

@@ -72,7 +72,7 @@ fn sweep(work: &[i32], n: usize, fill: u32, rule: u32, scan: &mut [i64], masks: 
     requires { ⌜ rule < 7 ⌝ }
     ensures { λ r. ⌜ Swept fill rule (scanRoom (length (now (scan .entry)))) (rowsFrom segments (now (work .entry)) 0 n) (now (scan .entry)) (now (masks .entry)) r (now (scan .exit)) (now (masks .exit)) ⌝ }
 {
-    let room = room_of(scan.len());
+    let room = rooms::scan_room(scan.len());
     let sorted = in_order(work, n);
     let mut used: usize = 0;
     let mut i: usize = 0;
@@ -88,16 +88,6 @@ fn sweep(work: &[i32], n: usize, fill: u32, rule: u32, scan: &mut [i64], masks: 
         i = e;
     }
     false
-}
-
-// How many entries a scan list of so many numbers takes.
-fn room_of(numbers: usize) -> usize
-    ensures { λ r. ⌜ r ≡ scanRoom numbers ⌝ }
-{
-    if 2048 < numbers / 3 {
-        return 2048;
-    }
-    numbers / 3
 }
 
 // Whether no segment starts before the one that stands before it: a run's list never does.

@@ -52,7 +52,7 @@ fn pairs(work: &[i32], n: usize, radius: u64, marks: &mut [i32]) -> Looked
     ensures { λ r. ⌜ r ≡ counted (markRoom (length (now (marks .entry)))) (marksOf radius (rowsFrom segments (now (work .entry)) 0 n)) ⌝ }
     ensures { λ r. ⌜ now (marks .exit) ≡ lookList r (marksOf radius (rowsFrom segments (now (work .entry)) 0 n)) (now (marks .entry)) ⌝ }
 {
-    let room = mark::room(marks.len());
+    let room = rooms::mark_room(marks.len());
     let mut count: usize = 0;
     'pairs: for i in 0..n {
         let target = places::read(work, i);

@@ -3,7 +3,6 @@ ghost use mathlib.Core.Path.{_≡_};
 ghost use Prim.Native.Nat.{_+_, _*_, _≤_};
 ghost use lib.ListN.{length};
 ghost use Rattle.whole.specs.Kind.{rowAt, putRow};
-ghost use Rattle.geom.specs.Limits.{markRoom};
 ghost use Rattle.split.specs.Marks.{marks as markRows, markFrom};
 ghost use Rattle.split.specs.Look.{sameMark};
 use crate::answer::Mark;
@@ -53,15 +52,4 @@ pub(crate) fn same(m: Mark, n: Mark) -> bool
         return order::same_point(m.point, n.point);
     }
     false
-}
-
-// How many marks a list of so many numbers takes: whole entries, cut to 65,536.
-pub fn room(numbers: usize) -> usize
-    ensures { λ r. ⌜ r ≡ markRoom numbers ⌝ }
-{
-    let whole = numbers / 3;
-    if 65536 < whole {
-        return 65536;
-    }
-    whole
 }

@@ -17,7 +17,7 @@ pub fn tidy(marks: &mut [i32], count: usize) -> Tidied
     ensures { λ r. ⌜ tidySays r ≡ tidySaid (now (marks .entry)) count ⌝ }
     ensures { λ r. ⌜ now (marks .exit) ≡ tidyList r (now (marks .entry)) count ⌝ }
 {
-    if mark::room(marks.len()) < count {
+    if rooms::mark_room(marks.len()) < count {
         return Tidied::Short;
     }
     rows::sort(marks, count, 3);

@@ -17,8 +17,8 @@ returns c =
     let x = c .before .before .args in
     also-said _ _ _ _ (sym (too-long (x .work .now) (x .n) (x .marks .now) (x .count) (omega arith)), refl)
 
-room-requires : tie.Need-room-requires
-room-requires c κs = search needs
+mark-room-requires : tie.Need-mark-room-requires
+mark-room-requires c κs = search needs
 
 returns-2 : tie.Need-returns-2
 unfolding applyList
@@ -105,7 +105,7 @@ apply-spec =
     (tie.spec
     work-room-requires
     returns
-    room-requires
+    mark-room-requires
     returns-2
     in-order-requires
     some-fault-requires

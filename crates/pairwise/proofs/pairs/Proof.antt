@@ -30,8 +30,8 @@ Inv-pairs work n radius marks₀ room count₀ i₀ marks count i = (i ≤ n) ×
 abbrev μ-pairs : tie.MeasureT-pairs
 μ-pairs work n radius marks₀ room count₀ i₀ marks count i = n - i
 
-room-requires : tie.Need-room-requires Inv-loop μ-loop Inv-pairs μ-pairs
-room-requires c κs = search needs
+mark-room-requires : tie.Need-mark-room-requires Inv-loop μ-loop Inv-pairs μ-pairs
+mark-room-requires c κs = search needs
 
 pairs-holds : tie.Need-pairs-holds Inv-loop μ-loop Inv-pairs μ-pairs
 pairs-holds c = (omega arith, omega arith, rw (sub-zero (c .before .args .n)) coming-all)
@@ -54,7 +54,7 @@ pair-requires c κs =
     let i = l .before .before in
     let s = i .before .before .before in
     let g = each-on-grid (s .args .work .now) (s .args .n) (s .pre .1 .1) in
-    let f : 3 * i .before .before .room .result ≤ length (s .args .marks .now) = rw (i .before .before .room .ensures) (room-fits (length (s .args .marks .now))) in
+    let f : 3 * i .before .before .mark-room .result ≤ length (s .args .marks .now) = rw (i .before .before .mark-room .ensures) (room-fits (length (s .args .marks .now))) in
     (rw (l .before .read .ensures) (g (i .before .pairs .i) (omega arith)), (rw (c .before .read2 .ensures) (g (l .loop .j) (omega arith)), (omega (arith, f), (omega arith, (omega arith, omega arith)))))
 
 add-j-2 : tie.Need-add-j-2 Inv-loop μ-loop Inv-pairs μ-pairs
@@ -90,7 +90,7 @@ pairs-again c =
 
 left : (c : tie.Left-pairs Inv-loop μ-loop Inv-pairs μ-pairs)
     → let a = c .before .before .before .args in
-    Left (c .before .before .room .result) (a .marks .now) (look (a .radius) (rowsFrom segments (a .work .now) 0 (a .n))) (c .pairs-test .marks) (c .pairs-test .count)
+    Left (c .before .before .mark-room .result) (a .marks .now) (look (a .radius) (rowsFrom segments (a .work .now) 0 (a .n))) (c .pairs-test .marks) (c .pairs-test .count)
 left c =
     let a = c .before .before .before .args in
     let q = a .radius in
@@ -120,13 +120,13 @@ same-length c = ap length (c .before .clear-i32 .ensures) ∙ length-replicate _
 returns : tie.Need-returns Inv-loop μ-loop Inv-pairs μ-pairs
 returns c =
     let d = c .before .before .before .before in
-    answer-full (left d) (c .before .before .before .if2 .taken) (d .before .before .room .ensures) (c .before .clear-i32 .ensures)
+    answer-full (left d) (c .before .before .before .if2 .taken) (d .before .before .mark-room .ensures) (c .before .clear-i32 .ensures)
 
 same-length-2 : tie.Need-same-length-2 Inv-loop μ-loop Inv-pairs μ-pairs
 same-length-2 c = left (c .before) .coming .kept
 
 returns-2 : tie.Need-returns-2 Inv-loop μ-loop Inv-pairs μ-pairs
-returns-2 c = answer-marks (left (c .before)) (c .if2 .left) (c .before .before .before .room .ensures)
+returns-2 c = answer-marks (left (c .before)) (c .if2 .left) (c .before .before .before .mark-room .ensures)
 
 pub pairs-spec : {M : Type 1} → statement M
 pairs-spec =
@@ -136,7 +136,7 @@ pairs-spec =
     μ-loop
     Inv-pairs
     μ-pairs
-    room-requires
+    mark-room-requires
     pairs-holds
     read-requires
     add-j

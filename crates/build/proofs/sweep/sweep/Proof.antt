@@ -20,24 +20,24 @@ abbrev μ-loop : tie.MeasureT-loop
 μ-loop work n fill rule scan₀ masks₀ room sorted used₀ i₀ scan masks used i = n - i
 
 -- room for so many entries, in the list as it is
-roomy : (c : tie.At-loop Inv-loop μ-loop) → let r = c .before .before .room-of .result in (3 * r ≤ length (c .loop .scan)) × (r ≤ 2048)
+roomy : (c : tie.At-loop Inv-loop μ-loop) → let r = c .before .before .scan-room .result in (3 * r ≤ length (c .loop .scan)) × (r ≤ 2048)
 roomy c =
-    let e = c .before .before .room-of .ensures in
+    let e = c .before .before .scan-room .ensures in
     let k = c .loop .inv .scan-kept in
     (omega arith, omega arith)
 
 -- what the node leaves, by the point where its first segment starts
-arrived : (c : tie.After-arrive Inv-loop μ-loop) → let e = c .before .before .before in let l = e .before .before in let o = l .before in let a = o .before .before .before .args in Holds (o .before .room-of .result) (l .loop .scan) (arrivals (a .work .now) (a .n) (o .in-order .result) (rowsFrom entries (l .loop .scan) 0 (l .loop .used)) (l .loop .i) (e .node-end .result) (segmentAt (a .work .now) (l .loop .i) .a)) (c .arrive .result .used) (c .arrive .last .1 .1 .0)
+arrived : (c : tie.After-arrive Inv-loop μ-loop) → let e = c .before .before .before in let l = e .before .before in let o = l .before in let a = o .before .before .before .args in Holds (o .before .scan-room .result) (l .loop .scan) (arrivals (a .work .now) (a .n) (o .in-order .result) (rowsFrom entries (l .loop .scan) 0 (l .loop .used)) (l .loop .i) (e .node-end .result) (segmentAt (a .work .now) (l .loop .i) .a)) (c .arrive .result .used) (c .arrive .last .1 .1 .0)
 arrived c =
     let v = c .before .before in
     let e = v .before in
     let l = e .before .before in
     let o = l .before in
     let a = o .before .before .before .args in
-    subst (λ (u : Segment). Holds (o .before .room-of .result) (l .loop .scan) (arrivals (a .work .now) (a .n) (o .in-order .result) (rowsFrom entries (l .loop .scan) 0 (l .loop .used)) (l .loop .i) (e .node-end .result) (u .a)) (c .arrive .result .used) (c .arrive .last .1 .1 .0)) (v .read .ensures) (c .arrive .ensures .0)
+    subst (λ (u : Segment). Holds (o .before .scan-room .result) (l .loop .scan) (arrivals (a .work .now) (a .n) (o .in-order .result) (rowsFrom entries (l .loop .scan) 0 (l .loop .used)) (l .loop .i) (e .node-end .result) (u .a)) (c .arrive .result .used) (c .arrive .last .1 .1 .0)) (v .read .ensures) (c .arrive .ensures .0)
 
 -- and what it knows of each segment that starts there
-ready : (c : tie.After-arrive Inv-loop μ-loop) → let e = c .before .before .before in let l = e .before .before in let o = l .before in c .arrive .result .used ≤ o .before .room-of .result → Ready (o .before .before .before .args .work .now) (c .arrive .last .1 .1 .0) (c .arrive .result) (l .loop .i) (e .node-end .result)
+ready : (c : tie.After-arrive Inv-loop μ-loop) → let e = c .before .before .before in let l = e .before .before in let o = l .before in c .arrive .result .used ≤ o .before .scan-room .result → Ready (o .before .before .before .args .work .now) (c .arrive .last .1 .1 .0) (c .arrive .result) (l .loop .i) (e .node-end .result)
 ready c h =
     let v = c .before .before in
     let e = v .before in
@@ -49,8 +49,8 @@ ready c h =
     let k = subst (λ (u : Segment). Known w (u .a) (stays w (o .in-order .result) L (u .a)) (c .arrive .result .known) (c .arrive .result .sums)) (v .read .ensures) (c .arrive .ensures .1) in
     node-ready w (a .n) L (o .in-order .result) (e .node-end .ensures) (arrived c) k h
 
-room-of-requires : tie.Need-room-of-requires Inv-loop μ-loop
-room-of-requires c κs = search needs
+scan-room-requires : tie.Need-scan-room-requires Inv-loop μ-loop
+scan-room-requires c κs = search needs
 
 in-order-requires : tie.Need-in-order-requires Inv-loop μ-loop
 in-order-requires c κs = search needs
@@ -59,7 +59,7 @@ loop-holds : tie.Need-loop-holds Inv-loop μ-loop
 loop-holds c =
     let r = c .before in
     let a = r .before .before .args in
-    sweeping-start (a .fill) (a .rule) (r .room-of .result) (a .work .now) (a .n) (c .in-order .result) (a .scan .now) (a .masks .now)
+    sweeping-start (a .fill) (a .rule) (r .scan-room .result) (a .work .now) (a .n) (c .in-order .result) (a .scan .now) (a .masks .now)
 
 node-end-requires : tie.Need-node-end-requires Inv-loop μ-loop
 node-end-requires c κs = (omega arith, omega arith)
@@ -90,7 +90,7 @@ returns c =
     let e = b .before .before .before in
     let l = e .before .before in
     let o = l .before in
-    let r = o .before .room-of in
+    let r = o .before .scan-room in
     let a = o .before .before .before .args in
     rw (← r .ensures)
     (swept-crowded (a .fill) (a .rule) (r .result) (a .work .now) (a .n) (o .in-order .result) (l .loop .inv) (o .in-order .ensures) (e .node-end .ensures) (arrived b) (c .if1 .taken))
@@ -105,8 +105,8 @@ write-bytes-requires c κs =
     let a = s .args in
     let g = l .loop .inv in
     let d = e .node-end .ensures in
-    let h : b .arrive .result .used ≤ o .before .room-of .result = c .before .before .if1 .left in
-    let now = entries-now (a .fill) (a .rule) (o .before .room-of .result) (a .work .now) (a .n) (o .in-order .result) g (o .in-order .ensures) d (arrived b) h in
+    let h : b .arrive .result .used ≤ o .before .scan-room .result = c .before .before .if1 .left in
+    let now = entries-now (a .fill) (a .rule) (o .before .scan-room .result) (a .work .now) (a .n) (o .in-order .result) g (o .in-order .ensures) d (arrived b) h in
     (s .pre .0 .0, (s .pre .1 .0, (s .pre .1 .1, ((omega (arith, h, roomy l .0, arrived b .same-length), omega (arith, h, roomy l .1)), (now, (ready b h, (omega (arith, d .after), d .within, omega (arith, g .masks-kept, s .pre .0 .2))))))))
 
 loop-less : tie.Need-loop-less Inv-loop μ-loop
@@ -122,7 +122,7 @@ loop-again c =
     let l = e .before .before in
     let o = l .before in
     let a = o .before .before .before .args in
-    sweeping-step (a .fill) (a .rule) (o .before .room-of .result) (a .work .now) (a .n) (o .in-order .result) (l .loop .inv) (o .in-order .ensures) (e .node-end .ensures) (arrived b) (w .before .before .before .if1 .left) (w .write-bytes .ensures)
+    sweeping-step (a .fill) (a .rule) (o .before .scan-room .result) (a .work .now) (a .n) (o .in-order .result) (l .loop .inv) (o .in-order .ensures) (e .node-end .ensures) (arrived b) (w .before .before .before .if1 .left) (w .write-bytes .ensures)
 
 same-length-3 : tie.Need-same-length-3 Inv-loop μ-loop
 same-length-3 c = c .before .loop .inv .scan-kept
@@ -134,7 +134,7 @@ returns-2 : tie.Need-returns-2 Inv-loop μ-loop
 returns-2 c =
     let l = c .before in
     let o = l .before in
-    let r = o .before .room-of in
+    let r = o .before .scan-room in
     let a = o .before .before .before .args in
     rw (← r .ensures)
     (swept (a .fill) (a .rule) (r .result) (a .work .now) (a .n) (o .in-order .result) (l .loop .inv) (omega arith))
@@ -145,7 +145,7 @@ sweep-spec =
     (tie.spec
     Inv-loop
     μ-loop
-    room-of-requires
+    scan-room-requires
     in-order-requires
     loop-holds
     node-end-requires

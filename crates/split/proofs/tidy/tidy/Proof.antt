@@ -14,12 +14,12 @@ use Rattle.split.proofs.Tidying.{sorted, tidied}
 use Rattle.split.proofs.tidy.tidy.Statement.{statement}
 use Rattle.split.proofs.tidy.tidy.Tie as tie
 
-room-requires : tie.Need-room-requires
-room-requires c κs = search needs
+mark-room-requires : tie.Need-mark-room-requires
+mark-room-requires c κs = search needs
 
 returns : tie.Need-returns
 unfolding tidyAnswer tidyList
-returns c = also-tidied _ _ (rw (← c .before .room .ensures, lt-ltb _ _ (c .if1 .taken)), refl)
+returns c = also-tidied _ _ (rw (← c .before .mark-room .ensures, lt-ltb _ _ (c .if1 .taken)), refl)
 
 sort-requires : tie.Need-sort-requires
 sort-requires c κs = search needs
@@ -37,11 +37,11 @@ returns-2 c =
     let o = d .before .before .before in
     let e = o .before .before in
     let x = e .before .before .args in
-    let h : x .count ≤ e .before .room .result = e .if1 .left in
-    let f : 3 * x .count ≤ length (x .marks .now) = omega (arith, e .before .room .ensures) in
+    let h : x .count ≤ e .before .mark-room .result = e .if1 .left in
+    let f : 3 * x .count ≤ length (x .marks .now) = omega (arith, e .before .mark-room .ensures) in
     let t = tidied (x .marks .now) (x .count) (rw (sorted (x .marks .now) (x .count) f (o .sort .ensures .0) (o .sort .ensures .1)) at (d .drop-repeats .ensures)) in
-    also-tidied _ _ (rw (← e .before .room .ensures, le-ltb _ _ h) (ap Distinct (t .0)), t .1)
+    also-tidied _ _ (rw (← e .before .mark-room .ensures, le-ltb _ _ h) (ap Distinct (t .0)), t .1)
 
 pub tidy-spec : {M : Type 1} → statement M
 tidy-spec =
-    tie.close (tie.spec room-requires returns sort-requires drop-repeats-requires same-length returns-2)
+    tie.close (tie.spec mark-room-requires returns sort-requires drop-repeats-requires same-length returns-2)
