@@ -7,7 +7,7 @@ use Rattle.whole.specs.Kind.{rowAt, rowsFrom}
 use Rattle.geom.specs.declared.Point.{Point}
 use Rattle.geom.specs.declared.Segment.{Segment}
 use Rattle.geom.specs.Plane.{point, sameZ}
-use Rattle.segm.specs.Forward.{forward}
+use Rattle.directions.specs.Forward.{forward}
 use Rattle.split.specs.Marks.{marks}
 
 -- the point of mark number i, and the points of k marks from number i on

@@ -114,7 +114,7 @@ fn piece(v: Segment, p: Point, q: Point) -> Segment
 {
     let subject = v.subject;
     let clip = v.clip;
-    segm::forward(Segment {
+    directions::forward(Segment {
         a: p,
         b: q,
         subject,

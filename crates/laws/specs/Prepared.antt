@@ -12,7 +12,8 @@ use Rattle.geom.specs.declared.Segment.{Segment}
 use Rattle.geom.specs.Plane.{Side, subject, clip, count, before, turned}
 use Rattle.geom.specs.Tests.{and, same?, when-true}
 use Rattle.segm.specs.Forward.{forward, sorted}
-use Rattle.segm.specs.Merge.{sameEnds, plus, groupsFrom, isEmpty, mergedFrom, merged}
+use Rattle.groups.specs.Group.{isEmpty}
+use Rattle.segm.specs.Merge.{sameEnds, plus, groupsFrom, mergedFrom, merged}
 use Rattle.segm.specs.Order.{order}
 use Rattle.segm.specs.MergeLaws.{sameEnds?}
 use Rattle.segm.specs.Balance.{Balanced}

@@ -45,8 +45,8 @@ fn open_end(rows: &[i32], n: usize, v: Segment) -> bool
 fn uneven(net: Net) -> bool
     ensures { λ r. ⌜ r ≡ isUneven net ⌝ }
 {
-    if segm::zero(net.subject) {
-        return !segm::zero(net.clip);
+    if totals::zero(net.subject) {
+        return !totals::zero(net.clip);
     }
     true
 }
@@ -90,7 +90,7 @@ fn changed(sum: i64, c: Count, starts: bool, ends: bool) -> i64
         if ends {
             return sum;
         }
-        return segm::total(sum, c);
+        return totals::total(sum, c);
     }
     if ends {
         return less(sum, c);

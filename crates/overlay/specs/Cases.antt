@@ -15,7 +15,8 @@ use Rattle.geom.specs.declared.Point.{Point}
 use Rattle.geom.specs.declared.Segment.{Segment}
 use Rattle.geom.specs.Plane.{point, segment, onGrid, gridPoint, gridSegment, before, between, samePoint, upright, turn, sideOf}
 use Rattle.segm.specs.Forward.{forward}
-use Rattle.segm.specs.Merge.{sameEnds, plus, groupsFrom, groups, isEmpty, mergedFrom, merged, pairedFrom, paired, isFar, anyFar}
+use Rattle.groups.specs.Group.{isEmpty, isFar}
+use Rattle.segm.specs.Merge.{sameEnds, plus, groupsFrom, groups, mergedFrom, merged, pairedFrom, paired, anyFar}
 use Rattle.segm.specs.Balance.{balancedAt, balancedOver, closed}
 use Rattle.cross.specs.Cross.{inner, collinearMask, level, nearest, quotient, crossPoint, onBoth, far, nearer, reach, snapped, middle, crossBy, crossing}
 use Rattle.cross.specs.Said.{Said, crossSaid}

@@ -13,7 +13,8 @@ use Rattle.geom.specs.declared.Segment.{Segment}
 use Rattle.geom.specs.Plane.{Side, subject, clip, count}
 use Rattle.geom.specs.Tests.{Decides, said, lt?}
 use Rattle.whole.specs.Decide.{or, below?}
-use Rattle.segm.specs.Merge.{groups, isFar, anyFar, tooBig}
+use Rattle.groups.specs.Group.{isFar}
+use Rattle.segm.specs.Merge.{groups, anyFar, tooBig}
 use Rattle.split.specs.Look.{look, tidy}
 use Rattle.edges.specs.Below.{live}
 use Rattle.scan.specs.Masks.{crowdedFrom, crowded}

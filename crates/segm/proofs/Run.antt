@@ -18,12 +18,12 @@ use Rattle.whole.specs.PassLaws.{Going, going-start, going-skip, going-put, don
 use Rattle.whole.specs.Test.{neither}
 use Rattle.geom.specs.declared.Segment.{Segment}
 use Rattle.geom.specs.Rows.{segments}
-use Rattle.segm.specs.declared.Group.{Group}
+use Rattle.groups.specs.declared.Group.{Group}
 use Rattle.segm.specs.declared.Merged.{Merged}
 use Rattle.segm.specs.declared.Merged.the-variants.{Joined, Same, TooBig}
-use Rattle.segm.specs.Merge.{sameEnds, groups, merged, paired, isFar, tooBig, answerOf, listOf}
+use Rattle.groups.specs.Group.{isFar, joint, alone, withOne, farGroup, isDropped, left}
+use Rattle.segm.specs.Merge.{sameEnds, groups, merged, paired, tooBig, answerOf, listOf}
 use Rattle.segm.specs.MergeLaws.{not-far}
-use Rattle.segm.specs.Group.{joint, alone, withOne, farGroup, isDropped, left}
 use Rattle.segm.proofs.Still.{merging, farOn, pairedOn, far-end, far-same, far-next, far-here, paired-end, paired-same, paired-next, pass-merged}
 
 -- ---- totals that are not outside fit 32 bits

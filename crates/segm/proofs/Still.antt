@@ -6,10 +6,10 @@ use mathlib.Core.List.{List, [], _∷_, _++_}
 use Rattle.whole.specs.Pass.{Pass, pass}
 use Rattle.whole.specs.Sum.{keep, keep-yes, keep-no}
 use Rattle.geom.specs.declared.Segment.{Segment}
-use Rattle.segm.specs.declared.Group.{Group}
-use Rattle.segm.specs.Merge.{sameEnds, plus, groupsFrom, isEmpty, mergedFrom, pairedFrom, anyFar}
+use Rattle.groups.specs.declared.Group.{Group}
+use Rattle.groups.specs.Group.{isEmpty, joint, alone, withOne, farGroup, isDropped, left}
+use Rattle.segm.specs.Merge.{sameEnds, plus, groupsFrom, mergedFrom, pairedFrom, anyFar}
 use Rattle.whole.specs.Test.{or-true, or-false}
-use Rattle.segm.specs.Group.{joint, alone, withOne, farGroup, isDropped, left}
 
 abbrev pub merging : Pass Segment Group
 merging =

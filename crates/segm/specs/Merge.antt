@@ -3,15 +3,15 @@ use mathlib.Core.Bool.{Bool, true, false, not, cond, _&&_, _||_}
 use mathlib.Core.List.{List, [], _∷_}
 use Prim.Native.Nat.{ℕ, _*_}
 use lib.Dec.{ltb}
-use lib.IntN.{ℤ, pos, negsuc, _+ℤ_}
+use lib.IntN.{ℤ, pos, _+ℤ_}
 use lib.ListN.{length, replicate}
-use lib.Signed.{ltZ}
 use Rattle.whole.specs.Kind.{rowsFrom, front}
 use Rattle.whole.specs.Sum.{keep}
 use Rattle.geom.specs.declared.Segment.{Segment}
 use Rattle.geom.specs.Limits.{segmentLimit}
-use Rattle.geom.specs.Plane.{sameZ, samePoint, segment}
+use Rattle.geom.specs.Plane.{samePoint, segment}
 use Rattle.geom.specs.Rows.{segments}
+use Rattle.groups.specs.Group.{isEmpty, isFar}
 use Rattle.segm.specs.declared.Merged.{Merged}
 use Rattle.segm.specs.declared.Merged.the-variants.{Joined, Same, Short, TooBig}
 
@@ -31,10 +31,6 @@ unfoldable pub groups : List Segment → List Segment
 groups [] = []
 groups (u ∷ L) = groupsFrom u L
 
--- both counts zero
-unfoldable pub isEmpty : Segment → Bool
-isEmpty v = sameZ (v .subject .0) (pos 0) && sameZ (v .clip .0) (pos 0)
-
 -- what stands before the first equal pair stays; from it on groups take the place of their segments, and the empty ones are dropped
 unfoldable pub mergedFrom : Segment → List Segment → List Segment
 mergedFrom u [] = u ∷ []
@@ -52,10 +48,6 @@ pairedFrom u (v ∷ L) = sameEnds u v || pairedFrom v L
 unfoldable pub paired : List Segment → Bool
 paired [] = false
 paired (u ∷ L) = pairedFrom u L
-
--- outside ±(2^31 - 1)
-unfoldable pub isFar : ℤ → Bool
-isFar z = ltZ z (negsuc 2147483646) || ltZ (pos 2147483647) z
 
 -- refusal 9: a group's subject or clip total is outside
 unfoldable pub anyFar : List Segment → Bool

@@ -26,7 +26,8 @@ use Rattle.geom.specs.Rows.{segments}
 use Rattle.segm.specs.declared.Merged.{Merged}
 use Rattle.segm.specs.declared.Merged.the-variants.{Joined, Same, Short, TooBig}
 use Rattle.segm.specs.Forward.{sorted}
-use Rattle.segm.specs.Merge.{sameEnds, plus, groupsFrom, groups, isEmpty, mergedFrom, merged, paired, isFar, anyFar, tooBig, tooShort, mergeAnswer, only, mergeSays, mergeSaid}
+use Rattle.groups.specs.Group.{isEmpty, isFar}
+use Rattle.segm.specs.Merge.{sameEnds, plus, groupsFrom, groups, mergedFrom, merged, paired, anyFar, tooBig, tooShort, mergeAnswer, only, mergeSays, mergeSaid}
 use Rattle.segm.specs.Order.{EndsBefore, by-a, by-b, SameEnds, EndsUpto, ends-trans, by-ends}
 
 pub sameEnds? : (u v : Segment) → Decides (SameEnds u v) (sameEnds u v)

@@ -1,20 +1,14 @@
-// Segments of one list: turned to run forward, and equal neighbours merged (segm/merge.rs).
+// Equal neighbours of one list merged (segm/merge.rs).
 ghost use mathlib.Core.Path.{_≡_};
-ghost use Prim.Native.Nat.{_+_, _*_, _≤_, _<_};
-ghost use lib.IntN.{natAbs, pos, _+ℤ_};
+ghost use Prim.Native.Nat.{_*_, _≤_, _<_};
+ghost use lib.IntN.{natAbs};
 ghost use lib.ListN.{length};
-ghost use lib.Seq.{sets};
-ghost use mir.Syntax.{w32};
-ghost use mir.Val.{SFits};
-ghost use Rattle.whole.specs.Kind.{flat, rowsFrom};
-ghost use Rattle.geom.specs.Plane.{Countable, sameZ};
+ghost use Rattle.whole.specs.Kind.{rowsFrom};
 ghost use Rattle.geom.specs.Rows.{segments};
-ghost use Rattle.segm.specs.Forward.{forward as forwardOf};
-ghost use Rattle.segm.specs.Merge.{sameEnds, isFar, mergeAnswer, mergeList, answerOf, listOf, mergeSays, mergeSaid};
-ghost use Rattle.segm.specs.Group.{joint, alone as aloneOf, withOne, farGroup, isDropped, left};
-use geom::Count;
-use geom::Point;
+ghost use Rattle.segm.specs.Merge.{sameEnds, mergeAnswer, mergeList, answerOf, listOf, mergeSays, mergeSaid};
+ghost use Rattle.groups.specs.Group.{joint, alone as aloneOf};
 use geom::Segment;
+use groups::Group;
 
 // What merging answers. Joined: equal neighbours were found; Same: there were none. Both say how many segments are left.
 pub enum Merged {
@@ -24,27 +18,6 @@ pub enum Merged {
     Short,
     // A group's total leaves ±(2^31 - 1) (9).
     TooBig,
-}
-
-// Equal neighbours as one: their ends and totals, and whether an equal pair was met up to here.
-struct Group {
-    a: Point,
-    b: Point,
-    subject: i64,
-    clip: i64,
-    met: bool,
-}
-
-// A segment with a > b is turned.
-pub fn forward(v: Segment) -> Segment
-    requires { ⌜ Countable (v .subject) ⌝ }
-    requires { ⌜ Countable (v .clip) ⌝ }
-    ensures { λ r. ⌜ r ≡ forwardOf v ⌝ }
-{
-    if order::before(v.b, v.a) {
-        return geom::turned(v);
-    }
-    v
 }
 
 // The first n rows become their merged segments, in place, and the rest stays. After 9 the list is wholly zero.
@@ -78,49 +51,25 @@ fn merge_rows(work: &mut [i32], n: usize) -> Merged
     for i in 1..n {
         let v = places::read(work, i);
         if same_ends(g, v) {
-            g = join(g, v);
+            g = groups::join(g, v);
             continue;
         }
-        if too_big(g) {
+        if groups::too_big(g) {
             lists::clear_i32(work);
             return Merged::TooBig;
         }
-        w = close(work, w, g);
+        w = groups::close(work, w, g);
         g = alone(v, g.met);
     }
-    if too_big(g) {
+    if groups::too_big(g) {
         lists::clear_i32(work);
         return Merged::TooBig;
     }
-    w = close(work, w, g);
+    w = groups::close(work, w, g);
     if g.met {
         return Merged::Joined(w);
     }
     Merged::Same(w)
-}
-
-// What the group leaves becomes row number w. The number of rows written then.
-fn close(work: &mut [i32], w: usize, g: Group) -> usize
-    requires { ⌜ 6 * w + 6 ≤ length (now work) ⌝ }
-    requires { ⌜ SFits w32 (g .subject) ⌝ }
-    requires { ⌜ SFits w32 (g .clip) ⌝ }
-    ensures { λ r. ⌜ r ≡ w + length (left g) ⌝ }
-    ensures { λ _. ⌜ now (work .exit) ≡ sets (now (work .entry)) (6 * w) (flat segments (left g)) ⌝ }
-{
-    if dropped(g) {
-        return w;
-    }
-    places::write(work, w, segment_of(g));
-    w + 1
-}
-
-fn same_ends(g: Group, v: Segment) -> bool
-    ensures { λ r. ⌜ r ≡ sameEnds (joint g) v ⌝ }
-{
-    if order::same_point(g.a, v.a) {
-        return order::same_point(g.b, v.b);
-    }
-    false
 }
 
 fn alone(v: Segment, met: bool) -> Group
@@ -140,82 +89,11 @@ fn alone(v: Segment, met: bool) -> Group
     }
 }
 
-fn join(g: Group, v: Segment) -> Group
-    requires { ⌜ natAbs (g .subject) ≤ 4096 * 2147483648 ⌝ }
-    requires { ⌜ natAbs (g .clip) ≤ 4096 * 2147483648 ⌝ }
-    ensures { λ r. ⌜ r ≡ withOne g v ⌝ }
-    ensures { λ r. ⌜ (natAbs (r .subject) ≤ natAbs (g .subject) + 2147483648) × (natAbs (r .clip) ≤ natAbs (g .clip) + 2147483648) ⌝ }
+fn same_ends(g: Group, v: Segment) -> bool
+    ensures { λ r. ⌜ r ≡ sameEnds (joint g) v ⌝ }
 {
-    let a = g.a;
-    let b = g.b;
-    let subject = total(g.subject, v.subject);
-    let clip = total(g.clip, v.clip);
-    Group {
-        a,
-        b,
-        subject,
-        clip,
-        met: true,
-    }
-}
-
-// One count more: 4,096 of them and more stay within 64 bits.
-pub fn total(sum: i64, c: Count) -> i64
-    requires { ⌜ natAbs sum ≤ 4096 * 2147483648 ⌝ }
-    ensures { λ r. ⌜ r ≡ sum +ℤ c .0 ⌝ }
-    ensures { λ r. ⌜ natAbs r ≤ natAbs sum + 2147483648 ⌝ }
-{
-    sum + c.0 as i64
-}
-
-fn too_big(g: Group) -> bool
-    ensures { λ r. ⌜ r ≡ farGroup g ⌝ }
-{
-    if far(g.subject) {
-        return true;
-    }
-    far(g.clip)
-}
-
-fn far(z: i64) -> bool
-    ensures { λ r. ⌜ r ≡ isFar z ⌝ }
-{
-    if z < -2147483647 {
-        return true;
-    }
-    2147483647 < z
-}
-
-fn dropped(g: Group) -> bool
-    ensures { λ r. ⌜ r ≡ isDropped g ⌝ }
-{
-    if g.met {
-        if zero(g.subject) {
-            return zero(g.clip);
-        }
+    if order::same_point(g.a, v.a) {
+        return order::same_point(g.b, v.b);
     }
     false
-}
-
-pub fn zero(z: i64) -> bool
-    ensures { λ r. ⌜ r ≡ sameZ z (pos 0) ⌝ }
-{
-    z == 0
-}
-
-fn segment_of(g: Group) -> Segment
-    requires { ⌜ SFits w32 (g .subject) ⌝ }
-    requires { ⌜ SFits w32 (g .clip) ⌝ }
-    ensures { λ r. ⌜ r ≡ joint g ⌝ }
-{
-    let a = g.a;
-    let b = g.b;
-    let subject = g.subject as i32;
-    let clip = g.clip as i32;
-    Segment {
-        a,
-        b,
-        subject: Count(subject),
-        clip: Count(clip),
-    }
 }

@@ -8,7 +8,7 @@ use Rattle.whole.specs.Sum.{keep}
 use Rattle.geom.specs.declared.Point.{Point}
 use Rattle.geom.specs.declared.Segment.{Segment}
 use Rattle.geom.specs.Plane.{sameZ}
-use Rattle.segm.specs.Forward.{forward}
+use Rattle.directions.specs.Forward.{forward}
 use Rattle.split.specs.declared.answer.Mark.{Mark}
 
 -- the points of the marks of segment i, in the order of the list

@@ -28,7 +28,7 @@ pub fn begin(input: &[i32], n: usize, work: &mut [i32])
 {
     for i in 0..n {
         let v = places::read(input, i);
-        places::write(work, i, segm::forward(v));
+        places::write(work, i, directions::forward(v));
     }
 }
 

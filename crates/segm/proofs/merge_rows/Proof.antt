@@ -7,7 +7,7 @@ use lib.ListN.{length, length-replicate}
 use lib.Seq.{length-sets}
 use borrow.Author.Needs.{needs}
 use Rattle.geom.specs.declared.Segment.{Segment}
-use Rattle.segm.specs.Group.{alone as aloneOf}
+use Rattle.groups.specs.Group.{alone as aloneOf}
 use Rattle.segm.proofs.Run.{Run, run-start, run-join, run-close, run-end, far-now, far-then, too-big, totals-fit}
 use Rattle.segm.proofs.merge_rows.Statement.{statement}
 use Rattle.segm.proofs.merge_rows.Tie as tie

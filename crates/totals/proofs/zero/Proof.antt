@@ -1,9 +1,9 @@
--- `segm::zero` meets its contract: a number of 64 bits is 0 where its bits are.
+-- `totals::zero` meets its contract: a number of 64 bits is 0 where its bits are.
 use lib.IntN.{pos}
 use native.Mathlib.Omega.{arith}
 use Rattle.order.proofs.Bits.{eqb-bits}
-use Rattle.segm.proofs.zero.Statement.{statement}
-use Rattle.segm.proofs.zero.Tie as tie
+use Rattle.totals.proofs.zero.Statement.{statement}
+use Rattle.totals.proofs.zero.Tie as tie
 
 returns : tie.Need-returns
 returns c = eqb-bits (c .args .z) (pos 0) (c .fits .z) (record { sfits = omega arith })

@@ -1,8 +1,8 @@
--- `segm::far` meets its contract: each test is one of the definition.
+-- `groups::far` meets its contract: each test is one of the definition.
 use mir.Facts.{toZ-ofZ}
-use Rattle.segm.specs.Merge.{isFar}
-use Rattle.segm.proofs.far.Statement.{statement}
-use Rattle.segm.proofs.far.Tie as tie
+use Rattle.groups.specs.Group.{isFar}
+use Rattle.groups.proofs.far.Statement.{statement}
+use Rattle.groups.proofs.far.Tie as tie
 
 returns : tie.Need-returns
 unfolding isFar

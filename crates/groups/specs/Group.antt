@@ -1,11 +1,20 @@
--- The state of merging in one pass: the group of equal neighbours that is open, and whether an equal pair was met up to it.
+-- What merging asks of counts, and its state in one pass ("Merge"): the group of equal neighbours that is open, and whether an equal
+-- pair was met up to it.
 use mathlib.Core.Bool.{Bool, true, cond, _&&_, _||_}
 use mathlib.Core.List.{List, [], _∷_}
-use lib.IntN.{_+ℤ_}
+use lib.IntN.{ℤ, pos, negsuc, _+ℤ_}
+use lib.Signed.{ltZ}
 use Rattle.geom.specs.declared.Segment.{Segment}
-use Rattle.geom.specs.Plane.{segment}
-use Rattle.segm.specs.declared.Group.{Group}
-use Rattle.segm.specs.Merge.{isEmpty, isFar}
+use Rattle.geom.specs.Plane.{sameZ, segment}
+use Rattle.groups.specs.declared.Group.{Group}
+
+-- both counts zero
+unfoldable pub isEmpty : Segment → Bool
+isEmpty v = sameZ (v .subject .0) (pos 0) && sameZ (v .clip .0) (pos 0)
+
+-- outside ±(2^31 - 1)
+unfoldable pub isFar : ℤ → Bool
+isFar z = ltZ z (negsuc 2147483646) || ltZ (pos 2147483647) z
 
 -- the group as one segment with its totals
 abbrev pub joint : Group → Segment

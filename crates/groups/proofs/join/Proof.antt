@@ -1,12 +1,12 @@
--- `segm::join` meets its contract: each total is one count more.
+-- `groups::join` meets its contract: each total is one count more.
 use mathlib.Core.Path.{_≡_, refl, _∙_}
 use lib.IntN.{_+ℤ_}
 use mir.Facts.{toZ-ofZ}
 use mir.Syntax.{w64}
 use mir.Val.{SFits, toZ, ofZ}
 use borrow.Author.Needs.{needs, sfits-of}
-use Rattle.segm.proofs.join.Statement.{statement}
-use Rattle.segm.proofs.join.Tie as tie
+use Rattle.groups.proofs.join.Statement.{statement}
+use Rattle.groups.proofs.join.Tie as tie
 
 fits-subject : (c : tie.Start) → SFits w64 (c .args .g .subject)
 fits-subject c = search needs

@@ -1,13 +1,13 @@
--- `segm::close` meets its contract: nothing is stored where the group is dropped, and else its one row.
+-- `groups::close` meets its contract: nothing is stored where the group is dropped, and else its one row.
 use mathlib.Core.Path.{refl, sym, ap, _∙_}
 use native.Mathlib.Omega.{arith}
 use borrow.Author.Needs.{needs}
 use Rattle.whole.specs.Kind.{putRow, flat}
 use Rattle.geom.specs.declared.Segment.{Segment}
 use Rattle.geom.specs.Rows.{segments}
-use Rattle.segm.specs.Group.{left}
-use Rattle.segm.proofs.close.Statement.{statement}
-use Rattle.segm.proofs.close.Tie as tie
+use Rattle.groups.specs.Group.{left}
+use Rattle.groups.proofs.close.Statement.{statement}
+use Rattle.groups.proofs.close.Tie as tie
 
 dropped-requires : tie.Need-dropped-requires
 dropped-requires c κs = search needs

@@ -1,9 +1,9 @@
--- `segm::forward` meets its contract: turned exactly if b stands before a.
+-- `directions::forward` meets its contract: turned exactly if b stands before a.
 use mathlib.Core.Path.{sym, _∙_}
 use borrow.Author.Needs.{needs}
-use Rattle.segm.specs.Forward.{forward}
-use Rattle.segm.proofs.forward.Statement.{statement}
-use Rattle.segm.proofs.forward.Tie as tie
+use Rattle.directions.specs.Forward.{forward}
+use Rattle.directions.proofs.forward.Statement.{statement}
+use Rattle.directions.proofs.forward.Tie as tie
 
 before-requires : tie.Need-before-requires
 before-requires c κs = search needs

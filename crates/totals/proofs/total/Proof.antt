@@ -1,4 +1,4 @@
--- `segm::total` meets its contract: a count is at most 2^31 from 0, so the sum is at most that much further than before.
+-- `totals::total` meets its contract: a count is at most 2^31 from 0, so the sum is at most that much further than before.
 use mathlib.Core.Path.{refl}
 use native.Mathlib.Omega.{arith}
 use lib.IntN.{_+ℤ_}
@@ -8,8 +8,8 @@ use mir.Syntax.{w32, w64}
 use mir.Val.{SFits}
 use borrow.Author.Needs.{needs}
 use Rattle.whole.specs.Fit.{abs-add, sum-fits, widen}
-use Rattle.segm.proofs.total.Statement.{statement}
-use Rattle.segm.proofs.total.Tie as tie
+use Rattle.totals.proofs.total.Statement.{statement}
+use Rattle.totals.proofs.total.Tie as tie
 
 fits-c : (c : tie.Start) → SFits w32 (c .args .c .0)
 fits-c c = search needs

@@ -1,4 +1,4 @@
--- `segm::dropped` meets its contract: an equal pair was met and both totals are zero.
+-- `groups::dropped` meets its contract: an equal pair was met and both totals are zero.
 use mathlib.Core.Path.{_≡_, sym, _∙_}
 use lib.IntN.{pos}
 use mir.Facts.{toZ-ofZ}
@@ -6,10 +6,9 @@ use mir.Syntax.{w64}
 use mir.Val.{SFits}
 use borrow.Author.Needs.{needs}
 use Rattle.geom.specs.Plane.{sameZ}
-use Rattle.segm.specs.Merge.{isEmpty}
-use Rattle.segm.specs.Group.{isDropped}
-use Rattle.segm.proofs.dropped.Statement.{statement}
-use Rattle.segm.proofs.dropped.Tie as tie
+use Rattle.groups.specs.Group.{isEmpty, isDropped}
+use Rattle.groups.proofs.dropped.Statement.{statement}
+use Rattle.groups.proofs.dropped.Tie as tie
 
 fits-subject : (c : tie.Start) → SFits w64 (c .args .g .subject)
 fits-subject c = search needs

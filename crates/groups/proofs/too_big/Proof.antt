@@ -1,13 +1,12 @@
--- `segm::too_big` meets its contract: either total is outside.
+-- `groups::too_big` meets its contract: either total is outside.
 use mathlib.Core.Path.{_≡_, sym, _∙_}
 use mir.Facts.{toZ-ofZ}
 use mir.Syntax.{w64}
 use mir.Val.{SFits}
 use borrow.Author.Needs.{needs}
-use Rattle.segm.specs.Merge.{isFar}
-use Rattle.segm.specs.Group.{farGroup}
-use Rattle.segm.proofs.too_big.Statement.{statement}
-use Rattle.segm.proofs.too_big.Tie as tie
+use Rattle.groups.specs.Group.{isFar, farGroup}
+use Rattle.groups.proofs.too_big.Statement.{statement}
+use Rattle.groups.proofs.too_big.Tie as tie
 
 fits-subject : (c : tie.Start) → SFits w64 (c .args .g .subject)
 fits-subject c = search needs
