@@ -136,8 +136,8 @@ fn at(kind: u64, p: Point, rounded: bool, mask: u8) -> CrossReport
     CrossReport {
         answer: 0,
         kind,
-        x: turns::wide(p.x.0),
-        y: turns::wide(p.y.0),
+        x: gaps::wide(p.x.0),
+        y: gaps::wide(p.y.0),
         rounded: bit_of(rounded),
         mask: wide(mask),
     }

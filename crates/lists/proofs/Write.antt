@@ -1,27 +1,14 @@
--- A loop writes the front of a list, one element a step, over any element type.
--- Filling with v is copying from a list of v as long as the list itself. Assumes nothing.
-use mathlib.Core.Path.{_≡_, refl, ap, _∙_}
-use mathlib.Core.List.{List, [], _∷_, append-nil}
-use Prim.Native.Nat.{ℕ, zero, suc, _+_, _≤_, _<_}
-use native.Mathlib.Nat.{not-suc-le-zero, le-of-suc-le-suc}
-use native.Mathlib.Numerals.{add-one}
+-- A loop fills a list with one value, one place a turn, over any element type: copying from a list of that value as long as the list itself. Assumes nothing.
+use mathlib.Core.Path.{_≡_, refl, _∙_}
+use mathlib.Core.List.{List, append-nil}
+use Prim.Native.Nat.{ℕ, _+_, _≤_, _<_}
 use native.Mathlib.Omega.{arith}
-use lib.ListN.{length, getD, set, replicate, length-set, length-replicate, getD-replicate}
+use lib.ListN.{length, set, replicate, length-set, length-replicate, getD-replicate}
 use lib.Seq.{take-all, drop-length}
-use Rattle.lists.specs.Copied.{copied}
+use Rattle.copies.specs.Copied.{copied}
+use Rattle.copies.proofs.Front.{copy-more}
 
 module _ {A : Type 0} where
-  next : (i : ℕ) (d : A) (xs ys : List A) → i < length xs → i < length ys → set (copied i xs ys) i (getD xs i d) ≡ copied (suc i) xs ys
-  unfolding copied
-  next i d [] ys p q = absurd (not-suc-le-zero p)
-  next i d (x ∷ xs) [] p q = absurd (not-suc-le-zero q)
-  next zero d (x ∷ xs) (y ∷ ys) p q = refl
-  next (suc i) d (x ∷ xs) (y ∷ ys) p q =
-      ap (λ (t : List A). x ∷ t) (next i d xs ys (le-of-suc-le-suc p) (le-of-suc-le-suc q))
-
-  pub copy-more : (i : ℕ) (d : A) (xs ys : List A) → i < length xs → i < length ys → set (copied i xs ys) i (getD xs i d) ≡ copied (i + 1) xs ys
-  copy-more i d xs ys p q = rw (add-one i) (next i d xs ys p q)
-
   -- ys, with v in its first i places
   abbrev pub filled : ℕ → A → List A → List A
   filled i v ys = copied i (replicate (length ys) v) ys

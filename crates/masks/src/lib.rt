@@ -25,7 +25,7 @@ fn side_bits(fill: u32, bottom: i64, count: Count) -> u8
     ensures { λ r. ⌜ r ≡ sideBy fill bottom (count .0) ⌝ }
     ensures { λ r. ⌜ r < 4 ⌝ }
 {
-    let top = bottom + turns::wide(count.0);
+    let top = bottom + gaps::wide(count.0);
     let a = bit_if(fills::inside(fill, top), 1);
     let b = bit_if(fills::inside(fill, bottom), 2);
     a + b

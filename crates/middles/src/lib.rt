@@ -60,7 +60,7 @@ fn moved(c: Coord, offset: i64) -> Coord
     requires { ⌜ OnGrid (c .0 +ℤ offset) ⌝ }
     ensures { λ r. ⌜ r ≡ movedBy c offset ⌝ }
 {
-    Coord((turns::wide(c.0) + offset) as i32)
+    Coord((gaps::wide(c.0) + offset) as i32)
 }
 
 // The squared distance.
@@ -69,8 +69,8 @@ pub fn far(p: Point, q: Point) -> u64
     requires { ⌜ GridPoint q ⌝ }
     ensures { λ r. ⌜ r ≡ farOf p q ⌝ }
 {
-    let w = size(turns::gap(p.x, q.x));
-    let h = size(turns::gap(p.y, q.y));
+    let w = size(gaps::gap(p.x, q.x));
+    let h = size(gaps::gap(p.y, q.y));
     w * w + h * h
 }
 
@@ -101,7 +101,7 @@ fn reduced(c: Coord, other: Segment, p: Point, f: Coord, g: Coord) -> Coord
     ensures { λ r. ⌜ r ≡ movedBy c (quotZ (against other p) (f .0 -ℤ g .0)) ⌝ }
 {
     let n = turns::turn(other.a, other.b, p);
-    let d = turns::gap(f, g);
+    let d = gaps::gap(f, g);
     moved(c, cut(n, d))
 }
 
@@ -140,9 +140,9 @@ fn on_slope(target: Segment, other: Segment) -> Point
     ensures { λ r. ⌜ r ≡ crossPoint target other ⌝ }
 {
     let n = turns::turn(other.a, other.b, target.a);
-    let d = turns::minus(n, turns::turn(other.a, other.b, target.b));
-    let x = moved(target.a.x, share(n, d, turns::gap(target.b.x, target.a.x)));
-    let y = moved(target.a.y, share(n, d, turns::gap(target.b.y, target.a.y)));
+    let d = gaps::minus(n, turns::turn(other.a, other.b, target.b));
+    let x = moved(target.a.x, share(n, d, gaps::gap(target.b.x, target.a.x)));
+    let y = moved(target.a.y, share(n, d, gaps::gap(target.b.y, target.a.y)));
     Point { x, y }
 }
 

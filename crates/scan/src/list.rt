@@ -57,8 +57,8 @@ fn entry_of(i: usize, v: Segment) -> Entry
     requires { ⌜ i < 2048 ⌝ }
     ensures { λ r. ⌜ r ≡ entryFor i v ⌝ }
 {
-    let subject = turns::wide(v.subject.0);
-    let clip = turns::wide(v.clip.0);
+    let subject = gaps::wide(v.subject.0);
+    let clip = gaps::wide(v.clip.0);
     Entry {
         segment: i as i64,
         subject,

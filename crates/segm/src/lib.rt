@@ -78,8 +78,8 @@ fn alone(v: Segment, met: bool) -> Group
 {
     let a = v.a;
     let b = v.b;
-    let subject = turns::wide(v.subject.0);
-    let clip = turns::wide(v.clip.0);
+    let subject = gaps::wide(v.subject.0);
+    let clip = gaps::wide(v.clip.0);
     Group {
         a,
         b,

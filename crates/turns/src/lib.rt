@@ -1,4 +1,4 @@
-// The turn of three points, and the one-operation steps of signed sums below it.
+// The turn of three points: two products of gaps, one less the other.
 ghost use mathlib.Core.Path.{_≡_};
 ghost use lib.IntN.{_-ℤ_, _*ℤ_};
 ghost use mir.Syntax.{w64};
@@ -7,34 +7,11 @@ ghost use Rattle.geom.specs.Plane.{OnGrid, GridPoint, turn as turnOf, sideOf};
 use geom::Coord;
 use geom::Point;
 
-// The steps of signed sums, each with what it asks as a clause: a caller reads an equation of whole numbers, and no bits.
-pub fn wide(x: i32) -> i64
-    ensures { λ r. ⌜ r ≡ x ⌝ }
-{
-    x as i64
-}
-
-pub fn minus(a: i64, b: i64) -> i64
-    requires { ⌜ SFits w64 (a -ℤ b) ⌝ }
-    ensures { λ r. ⌜ r ≡ a -ℤ b ⌝ }
-{
-    a - b
-}
-
 fn times(a: i64, b: i64) -> i64
     requires { ⌜ SFits w64 (a *ℤ b) ⌝ }
     ensures { λ r. ⌜ r ≡ a *ℤ b ⌝ }
 {
     a * b
-}
-
-// How far a is past b.
-pub fn gap(a: Coord, b: Coord) -> i64
-    requires { ⌜ OnGrid (a .0) ⌝ }
-    requires { ⌜ OnGrid (b .0) ⌝ }
-    ensures { λ r. ⌜ r ≡ a .0 -ℤ b .0 ⌝ }
-{
-    minus(wide(a.0), wide(b.0))
 }
 
 // The product of two gaps.
@@ -45,7 +22,7 @@ fn area(a: Coord, b: Coord, c: Coord, d: Coord) -> i64
     requires { ⌜ OnGrid (d .0) ⌝ }
     ensures { λ r. ⌜ r ≡ (a .0 -ℤ b .0) *ℤ (c .0 -ℤ d .0) ⌝ }
 {
-    times(gap(a, b), gap(c, d))
+    times(gaps::gap(a, b), gaps::gap(c, d))
 }
 
 // Over 0 where q lies left of the way from o to p. It fits 64 bits because differences on the grid stay below 2^31.
@@ -55,7 +32,7 @@ pub fn turn(o: Point, p: Point, q: Point) -> i64
     requires { ⌜ GridPoint q ⌝ }
     ensures { λ r. ⌜ r ≡ turnOf o p q ⌝ }
 {
-    minus(area(p.x, o.x, q.y, o.y), area(p.y, o.y, q.x, o.x))
+    gaps::minus(area(p.x, o.x, q.y, o.y), area(p.y, o.y, q.x, o.x))
 }
 
 // The sign of the turn: 0 right, 1 on the line, 2 left.

@@ -9,10 +9,10 @@ use mir.Val.{toZ, ofZ}
 use mir.Facts.{toZ-ofZ}
 use borrow.Author.Needs.{sfits-of}
 use borrow.Author.Tests.{le-leb, lt-leb}
-use Rattle.lists.specs.Copied.{copied}
-use Rattle.lists.proofs.Write.{copy-more}
-use Rattle.lists.proofs.copy.Statement.{statement}
-use Rattle.lists.proofs.copy.Tie as tie
+use Rattle.copies.specs.Copied.{copied}
+use Rattle.copies.proofs.Front.{copy-more}
+use Rattle.copies.proofs.copy.Statement.{statement}
+use Rattle.copies.proofs.copy.Tie as tie
 
 abbrev Inv-loop : tie.InvT-loop
 Inv-loop from to₀ n i₀ to i = (i ≤ n) × (length to ≡ length to₀) × (to ≡ copied i from to₀)

@@ -1,4 +1,4 @@
--- `turns::gap` meets its contract: two numbers of the grid are less than 2^31 apart.
+-- `gaps::gap` meets its contract: two numbers of the grid are less than 2^31 apart.
 use mathlib.Core.Path.{_≡_, _∙_}
 use mir.Facts.{toZ-ofZ}
 use mir.Syntax.{w64}
@@ -6,8 +6,8 @@ use mir.Val.{toZ, ofZ}
 use borrow.Author.Needs.{needs}
 use Rattle.whole.specs.Fit.{held, widen}
 use Rattle.geom.specs.Bounds.{grid-fits, gap-fits}
-use Rattle.turns.proofs.gap.Statement.{statement}
-use Rattle.turns.proofs.gap.Tie as tie
+use Rattle.gaps.proofs.gap.Statement.{statement}
+use Rattle.gaps.proofs.gap.Tie as tie
 
 wide-requires : tie.Need-wide-requires
 wide-requires c κs = search needs

@@ -1,8 +1,8 @@
--- `turns::wide` meets its contract: what 32 bits hold, 64 hold.
+-- `gaps::wide` meets its contract: what 32 bits hold, 64 hold.
 use mir.Facts.{toZ-ofZ}
 use Rattle.whole.specs.Fit.{widen}
-use Rattle.turns.proofs.wide.Statement.{statement}
-use Rattle.turns.proofs.wide.Tie as tie
+use Rattle.gaps.proofs.wide.Statement.{statement}
+use Rattle.gaps.proofs.wide.Tie as tie
 
 cast-result : tie.Need-cast-result
 cast-result c = rw (toZ-ofZ (c .fits .x)) (widen (c .fits .x))

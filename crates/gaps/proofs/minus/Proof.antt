@@ -1,7 +1,7 @@
--- `turns::minus` meets its contract: the difference fits by what is asked.
+-- `gaps::minus` meets its contract: the difference fits by what is asked.
 use borrow.Author.Needs.{needs}
-use Rattle.turns.proofs.minus.Statement.{statement}
-use Rattle.turns.proofs.minus.Tie as tie
+use Rattle.gaps.proofs.minus.Statement.{statement}
+use Rattle.gaps.proofs.minus.Tie as tie
 
 sub-result : tie.Need-sub-result
 sub-result c = search needs
