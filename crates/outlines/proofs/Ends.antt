@@ -1,7 +1,7 @@
 -- The net count at a point is what starts there less what ends there, so it is zero exactly where the list is balanced; and a list is open exactly if
 -- some segment of it has an end where it is not balanced.
 use mathlib.Core.Path.{_≡_, refl, sym, ap, ap₂, _∙_}
-use mathlib.Core.Bool.{Bool, true, false, not, cond, _&&_, _||_}
+use mathlib.Core.Bool.{Bool, true, false, not, _&&_, _||_}
 use mathlib.Core.List.{List, [], _∷_}
 use lib.IntN.{ℤ, pos, _+ℤ_, _-ℤ_, _*ℤ_}
 use Rattle.whole.specs.Order.{zz, add-is, sub-is}

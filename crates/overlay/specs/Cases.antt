@@ -1,6 +1,6 @@
 -- Document 01's worked cases ("Crossings and runs worked by hand"), computed on the definitions: each case marked there, and the printed run whole.
 use mathlib.Core.Path.{_≡_, refl}
-use mathlib.Core.Bool.{Bool, true, false}
+use mathlib.Core.Bool.{true, false}
 use mathlib.Core.List.{List, [], _∷_, _++_}
 use Prim.Native.Nat.{ℕ, _+_, _*_}
 use lib.IntN.{ℤ, pos, negsuc}
@@ -11,7 +11,6 @@ use Rattle.whole.specs.Kind.{rowAt, flat, rowsFrom, front}
 use Rattle.whole.specs.Pass.{pass}
 use Rattle.whole.specs.Distinct.{distinct}
 use Rattle.whole.specs.Sum.{Sum, Over, keep}
-use Rattle.geom.specs.declared.Point.{Point}
 use Rattle.geom.specs.declared.Segment.{Segment}
 use Rattle.geom.specs.Plane.{point, segment, onGrid, gridPoint, gridSegment, before, between, samePoint, upright, turn, sideOf}
 use Rattle.segm.specs.Forward.{forward}
@@ -31,7 +30,7 @@ use Rattle.checks.specs.declared.Settings.{Settings}
 use Rattle.checks.specs.Checks.{isShort, isBad, faultOf}
 use Rattle.overlay.specs.Numbers.{refusal, answer0}
 use Rattle.overlay.specs.Looks.{radius, joined, lookAt, looksFrom, ran}
-use Rattle.overlay.specs.Outcome.{Lent, Outcome, finished, swept, unless, outcome}
+use Rattle.overlay.specs.Outcome.{Lent, finished, swept, unless, outcome}
 
 -- ---- crossings
 

@@ -1,5 +1,5 @@
 -- Splitting at the marks ("Splitting").
-use mathlib.Core.Bool.{Bool, cond}
+use mathlib.Core.Bool.{cond}
 use mathlib.Core.List.{List, [], _∷_, _++_, map, reverse}
 use Prim.Native.Nat.{ℕ, suc}
 use lib.IntN.{ℤ, pos}

@@ -3,7 +3,7 @@ use mathlib.Core.Path.{_≡_, ap₂, _∙_}
 use lib.IntN.{ℤ}
 use mir.Facts.{toZ-ofZ}
 use mir.Syntax.{w64}
-use mir.Val.{SFits, toZ, ofZ}
+use mir.Val.{SFits}
 use borrow.Author.Needs.{needs, sfits-of}
 use Rattle.geom.specs.Plane.{samePoint}
 use Rattle.outlines.specs.declared.Net.{Net}

@@ -9,7 +9,6 @@ use lib.ListN.{length}
 use Rattle.checks.specs.declared.Settings.{Settings}
 use Rattle.overlay.specs.Outcome.{Lent, outcome}
 use Rattle.ending.specs.Lent.{lent}
-use Rattle.wire.specs.declared.Decoded.{Decoded}
 use Rattle.wire.specs.declared.Decoded.the-variants.{Asked, Broken}
 use Rattle.wire.specs.Asked.{isTaken, settingsOf, decodedAs, decodedList}
 use Rattle.text.specs.PutLaws.{put-as}

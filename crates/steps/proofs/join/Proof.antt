@@ -1,5 +1,5 @@
 -- Each arm passes on what merging said of the sorted rows.
-use mathlib.Core.Path.{_≡_, sym, ap, _∙_}
+use mathlib.Core.Path.{_≡_, ap}
 use borrow.Author.Needs.{needs}
 use Rattle.whole.specs.Kind.{rowsFrom}
 use Rattle.geom.specs.Rows.{segments}

@@ -1,6 +1,4 @@
-use mathlib.Core.Path.{_≡_}
-use Prim.Native.Nat.{_-_, _≤_}
-use lib.ListN.{length}
+use Prim.Native.Nat.{_-_}
 use borrow.Author.Needs.{needs}
 use Rattle.stored.proofs.rows.Statement.{statement}
 use Rattle.stored.proofs.rows.Tie as tie
