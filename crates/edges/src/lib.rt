@@ -1,7 +1,6 @@
 // The tests of edges that a sweep makes: what is live at a node, what lies below an edge, and where a point lies by an edge's line. No counts are read.
 ghost use mathlib.Core.Path.{_≡_};
-ghost use lib.IntN.{pos};
-ghost use Rattle.geom.specs.Plane.{GridPoint, GridSegment, sameZ};
+ghost use Rattle.geom.specs.Plane.{GridPoint, GridSegment};
 ghost use Rattle.edges.specs.Below.{alive, under, below, live, heightAt, underAt};
 use geom::Coord;
 use geom::Point;
@@ -65,14 +64,8 @@ pub fn height_at(t: Segment, p: Point) -> Height
     let h = turns::turn(t.a, t.b, p);
     Height {
         over: 0 < h,
-        level: is_zero(h),
+        level: totals::zero(h),
     }
-}
-
-fn is_zero(z: i64) -> bool
-    ensures { λ r. ⌜ r ≡ sameZ z (pos 0) ⌝ }
-{
-    z == 0
 }
 
 // Where e.a lies on t's line, e runs above t just if its b lies left of that line: so the lesser slope is one more turn.

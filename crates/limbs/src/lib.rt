@@ -1,7 +1,7 @@
 // Numbers that a word does not hold: the product of two words in two words, and the factor that sets a divisor's top bit.
 // What a quotient is, as a type and as a definition, stands here for the crates that divide: quotients and shares.
 ghost use mathlib.Core.Path.{_≡_};
-ghost use Prim.Native.Nat.{_+_, _*_, _^_, _<_};
+ghost use Prim.Native.Nat.{_*_, _^_, _<_};
 ghost use lib.Count.{leadingZeros};
 ghost use Rattle.limbs.specs.Limbs.{twoOf};
 

@@ -1,4 +1,4 @@
-// Totals of counts in 64 bits: a count more, and whether a total is 0.
+// Sums in 64 bits: a count more, and whether a number is 0.
 ghost use mathlib.Core.Path.{_≡_};
 ghost use Prim.Native.Nat.{_+_, _*_, _≤_};
 ghost use lib.IntN.{natAbs, pos, _+ℤ_};
