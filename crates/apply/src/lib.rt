@@ -1,3 +1,4 @@
+#![tactic(auto)]
 // Splitting at the marks (split/solver.rs `apply`), in the work list itself.
 // The list is written from its back: the pieces of a segment start behind those of the segments before it, so never before its own row,
 // and each segment is read before anything is written over it.
@@ -17,7 +18,7 @@ ghost use Rattle.apply.specs.Start.{start_of};
 use split::answer::Mark;
 use split::mark;
 
-#[derive(Drop)]
+#[derive(Clone, Copy)]
 pub enum Applied {
     // So many segments.
     Pieces(usize),

@@ -1,3 +1,4 @@
+#![tactic(auto)]
 // The sweep over settled edges, which gives each edge its byte.
 
 mod check;

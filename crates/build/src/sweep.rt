@@ -11,7 +11,7 @@ ghost use Rattle.build.specs.Fill.{fill_says, fill_said};
 
 use scan::nodes::Node;
 
-#[derive(Drop)]
+#[derive(Clone, Copy)]
 pub enum Filled {
     // 0: the masks hold the bytes.
     Done,

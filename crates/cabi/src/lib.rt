@@ -1,3 +1,4 @@
+#![tactic(auto)]
 // The library for C and Rust: a slice goes over as a pointer and a length, a struct by value.
 ghost use Rattle.std.specs.Prelude.{◌≡◌, ◌+◌, ◌≤◌, length};
 ghost use Rattle.geom.specs.Rows.{point_from};
@@ -15,7 +16,7 @@ use report::Report;
 
 // How two segments cross. Kind: 0 nothing, 1 Pure, 2 TargetEnd, 3 OtherEnd, 4 Overlay; the mask is that of an Overlay.
 #[repr(C)]
-#[derive(Drop)]
+#[derive(Clone, Copy)]
 pub struct CrossReport {
     pub answer: u64,
     pub kind: u64,

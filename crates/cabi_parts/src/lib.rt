@@ -1,3 +1,4 @@
+#![tactic(auto)]
 // Single parts of the run for C and Rust, so that each can be timed alone. A refusal is false, 0 rows or 0 marks; the sweep answers by number.
 ghost use Rattle.std.specs.Prelude.{cond, ◌≡◌, length};
 ghost use Rattle.std.specs.Int.Signed.{lt_z};

@@ -1,3 +1,4 @@
+#![tactic(auto)]
 // One segment split at the run of its marks (split/solver.rs `apply`): the chain from a through the marks to b, column by column.
 ghost use Rattle.std.specs.Prelude.{◌≡◌, cond, ◌+◌, ◌-◌, ◌*◌, ◌≤◌, ◌<◌, length};
 ghost use Rattle.std.proofs.lemmas.List.Edits.{sets};

@@ -1,9 +1,10 @@
+#![tactic(auto)]
 // The first step of a run: the input is checked, and nothing is changed.
 ghost use Rattle.std.specs.Prelude.{◌≡◌};
 ghost use Rattle.checks.specs.Checks.{is_short, is_bad, fault_of, check_says, check_said};
 
 // The number of segments; the fill rule, 0 to 3; the overlay rule, 0 to 6; the budget of looks, 1 to 64.
-#[derive(Drop)]
+#[derive(Clone, Copy)]
 pub struct Settings {
     pub n: usize,
     pub fill: u32,
@@ -11,7 +12,7 @@ pub struct Settings {
     pub budget: u32,
 }
 
-#[derive(Drop)]
+#[derive(Clone, Copy)]
 pub enum Fault {
     Sound,
     // 1: n is over the limit, or a list is too short for n.

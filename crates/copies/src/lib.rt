@@ -1,3 +1,4 @@
+#![tactic(auto)]
 // The front of a lent list copied from another.
 ghost use Rattle.std.specs.Prelude.{cond, ◌≡◌};
 ghost use Rattle.copies.specs.Copied.{both_hold, copied};

@@ -1,7 +1,7 @@
 // What a crossing is.
 use geom::Point;
 
-#[derive(Drop)]
+#[derive(Clone, Copy)]
 pub enum Kind {
     // Inside both: both are marked.
     Pure,
@@ -13,14 +13,14 @@ pub enum Kind {
     Overlay,
 }
 
-#[derive(Drop)]
+#[derive(Clone, Copy)]
 pub struct Cross {
     pub point: Point,
     pub kind: Kind,
     pub rounded: bool,
 }
 
-#[derive(Drop)]
+#[derive(Clone, Copy)]
 pub enum Crossing {
     Found(Cross),
     Nothing,

@@ -1,3 +1,4 @@
+#![tactic(auto)]
 // How two segments of the grid cross: by the four signs, and where no end is on the other's line by the middle point.
 ghost use Rattle.std.specs.Prelude.{◌≡◌, ℕ, ◌<◌};
 ghost use Rattle.geom.specs.Plane.{GridSegment};

@@ -1,9 +1,10 @@
+#![tactic(auto)]
 // Whether an edge is kept, for a caller who may give any numbers.
 ghost use Rattle.std.specs.Prelude.{◌≡◌};
 ghost use Rattle.decisions.specs.Decision.{keep_says, keep_said};
 
 // What is to be done with an edge.
-#[derive(Drop)]
+#[derive(Clone, Copy)]
 pub enum Decision {
     Keep,
     Drop,

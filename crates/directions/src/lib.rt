@@ -1,3 +1,4 @@
+#![tactic(auto)]
 // The direction of a segment: it is turned to run forward.
 ghost use Rattle.std.specs.Prelude.{◌≡◌};
 ghost use Rattle.geom.specs.Plane.{Countable};

@@ -1,3 +1,4 @@
+#![tactic(auto)]
 // The tests of edges that a sweep makes: what is live at a node, what lies below an edge, and where a point lies by an edge's line. No counts are read.
 ghost use Rattle.std.specs.Prelude.{◌≡◌};
 ghost use Rattle.geom.specs.Plane.{GridPoint, GridSegment};
@@ -50,7 +51,7 @@ fn is_under(t: Segment, e: Segment) -> bool
 }
 
 // Whether p lies over t's line, and whether it lies on it.
-#[derive(Drop)]
+#[derive(Clone, Copy)]
 pub struct Height {
     pub over: bool,
     pub level: bool,

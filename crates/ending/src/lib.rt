@@ -1,3 +1,4 @@
+#![tactic(auto)]
 // How a run ends: every list set to zero, or the sweep of its settled rows.
 ghost use Rattle.std.specs.Prelude.{◌≡◌, ◌≤◌, length};
 ghost use Rattle.whole.specs.Kind.{rows_from};

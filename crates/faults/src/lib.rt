@@ -1,3 +1,4 @@
+#![tactic(auto)]
 // What may be wrong with one segment of a list, refusals 3 to 5: off the grid, without length, a count of -2^31.
 ghost use Rattle.std.specs.Prelude.{◌≡◌, ◌*◌, ◌≤◌, negsuc, length};
 ghost use Rattle.whole.specs.Kind.{rows_from};

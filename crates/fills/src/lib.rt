@@ -1,3 +1,4 @@
+#![tactic(auto)]
 // The four fill rules.
 ghost use Rattle.std.specs.Prelude.{◌≡◌};
 ghost use Rattle.fills.specs.Inside.{inside as within};

@@ -1,3 +1,4 @@
+#![tactic(auto)]
 // How far a coordinate is past another, and the one-operation steps of signed sums below it.
 ghost use Rattle.std.specs.Prelude.{◌≡◌, ◌-ℤ◌};
 ghost use Rattle.std.specs.Int.{w64};

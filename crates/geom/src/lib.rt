@@ -1,21 +1,22 @@
+#![tactic(auto)]
 // Points and segments: the types, and a segment turned.
 // A coordinate and a count are both 32-bit numbers and are types of their own, so that the compiler refuses one for the other.
 ghost use Rattle.std.specs.Prelude.{◌≡◌};
 ghost use Rattle.geom.specs.Plane.{Countable, neg_count, turned as turned_of};
 
-#[derive(Drop)]
+#[derive(Clone, Copy)]
 pub struct Coord(pub i32);
 
-#[derive(Drop)]
+#[derive(Clone, Copy)]
 pub struct Count(pub i32);
 
-#[derive(Drop)]
+#[derive(Clone, Copy)]
 pub struct Point {
     pub x: Coord,
     pub y: Coord,
 }
 
-#[derive(Drop)]
+#[derive(Clone, Copy)]
 pub struct Segment {
     pub a: Point,
     pub b: Point,

@@ -1,3 +1,4 @@
+#![tactic(auto)]
 // What lies on the grid: a coordinate from -2^30 to 2^30 - 1, a point of two such, a segment of two such points.
 ghost use Rattle.std.specs.Prelude.{◌≡◌};
 ghost use Rattle.geom.specs.Plane.{on_grid, grid_point, grid_segment};

@@ -1,3 +1,4 @@
+#![tactic(auto)]
 // Equal neighbours as one: a group, how it grows, and what it leaves.
 ghost use Rattle.std.specs.Prelude.{◌≡◌, ◌+◌, ◌*◌, ◌≤◌, nat_abs, length};
 ghost use Rattle.std.proofs.lemmas.List.Edits.{sets};
@@ -10,7 +11,7 @@ ghost use Rattle.groups.specs.Group.{is_far, joint, with_one, far_group, is_drop
 use geom::{Count, Point, Segment};
 
 // Equal neighbours as one: their ends and totals, and whether an equal pair was met up to here.
-#[derive(Drop)]
+#[derive(Clone, Copy)]
 pub struct Group {
     pub a: Point,
     pub b: Point,

@@ -1,23 +1,24 @@
+#![tactic(auto)]
 // Numbers that a word does not hold: the product of two words in two words, and the factor that sets a divisor's top bit.
 // What a quotient is, as a type and as a definition, stands here for the crates that divide: quotients and shares.
 ghost use Rattle.std.specs.Prelude.{◌≡◌, ◌*◌, ◌^◌, ◌<◌};
 ghost use Rattle.std.specs.Int.Count.{count_leading_zeros};
 ghost use Rattle.limbs.specs.Limbs.{two_of};
 
-#[derive(Drop)]
+#[derive(Clone, Copy)]
 pub struct Two {
     pub high: u64,
     pub low: u64,
 }
 
-#[derive(Drop)]
+#[derive(Clone, Copy)]
 pub struct Quotient {
     pub whole: u64,
     pub rest: u64,
 }
 
 // No divisor and a quotient that no word holds are answers too, so that callers owe nothing.
-#[derive(Drop)]
+#[derive(Clone, Copy)]
 pub enum Division {
     Whole(u64),
     NoDivisor,

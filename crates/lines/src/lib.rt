@@ -1,3 +1,4 @@
+#![tactic(auto)]
 // Two segments on one line: which ends mark the other segment.
 ghost use Rattle.std.specs.Prelude.{◌≡◌, ◌*◌, ◌<◌};
 ghost use Rattle.cross.specs.Cross.{inner as is_inner, bit, collinear_mask};

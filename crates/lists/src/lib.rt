@@ -1,3 +1,4 @@
+#![tactic(auto)]
 // Lent lists set wholly to zero, as refusals 7 to 11 leave them.
 ghost use Rattle.std.specs.Prelude.{◌≡◌, length, replicate, pos};
 

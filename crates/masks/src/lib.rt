@@ -1,3 +1,4 @@
+#![tactic(auto)]
 // The byte of an edge, from the sums at its bottom: the mask by the fill rule, and whether the edge is kept.
 ghost use Rattle.std.specs.Prelude.{◌≡◌, ◌*◌, ◌<◌, ◌+ℤ◌};
 ghost use Rattle.std.specs.Int.{w64};

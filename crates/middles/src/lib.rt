@@ -1,3 +1,4 @@
+#![tactic(auto)]
 // The middle point of two segments that cross, in whole numbers: from target's a, the share n / d of the way to target's b; and how far a point is from their ends.
 ghost use Rattle.std.specs.Prelude.{◌≡◌, ◌≢◌, ◌<◌, ◌^◌, nat_abs, ◌+ℤ◌, ◌-ℤ◌, ◌*ℤ◌};
 ghost use Rattle.std.specs.Int.Signed.{quot_z};
@@ -9,7 +10,7 @@ ghost use Rattle.middles.specs.Middle.{Middle, Cut, Share, signed_as, moved_by, 
 use geom::{Coord, Point, Segment};
 
 // An end of a segment, and the squared distance of a point from it.
-#[derive(Drop)]
+#[derive(Clone, Copy)]
 pub struct End {
     pub point: Point,
     pub far: u64,

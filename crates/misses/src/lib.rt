@@ -1,3 +1,4 @@
+#![tactic(auto)]
 // Pairs that surely make nothing: the look and the crossing ask this before all else.
 ghost use Rattle.std.specs.Prelude.{◌≡◌};
 ghost use Rattle.geom.specs.Plane.{GridSegment};

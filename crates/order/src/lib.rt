@@ -1,3 +1,4 @@
+#![tactic(auto)]
 // Tests of points: their order, which lie between others, which are the same.
 ghost use Rattle.std.specs.Prelude.{◌≡◌};
 ghost use Rattle.std.specs.Int.Signed.{lt_z};

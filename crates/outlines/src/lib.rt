@@ -1,3 +1,4 @@
+#![tactic(auto)]
 // Open outlines, refusal 6: whether at some end of a row what starts is not what ends.
 ghost use Rattle.std.specs.Prelude.{◌≡◌, ◌+◌, ◌*◌, ◌≤◌, nat_abs, ◌-ℤ◌, length};
 ghost use Rattle.whole.specs.Kind.{rows_from};
@@ -8,7 +9,7 @@ ghost use Rattle.outlines.specs.Net.{changed_by, counted_at, net_at, is_uneven, 
 use geom::{Count, Point, Segment};
 
 // What starts at a point less what ends there.
-#[derive(Drop)]
+#[derive(Clone, Copy)]
 struct Net {
     subject: i64,
     clip: i64,

@@ -1,6 +1,6 @@
 // What a run answers.
 
-#[derive(Drop)]
+#[derive(Clone, Copy)]
 pub enum Answer {
     // 0: no two edges meet except at ends of both. So many segments, after so many looks.
     Settled(usize, usize),

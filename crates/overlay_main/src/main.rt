@@ -1,3 +1,4 @@
+#![tactic(auto)]
 // The program: reads a list from standard input, runs the overlay on lists of its own, and writes the answer.
 ghost use Rattle.std.specs.Prelude.{◌≡◌, ◌≤◌};
 ghost use Rattle.text.specs.Put.{Put};

@@ -1,3 +1,4 @@
+#![tactic(auto)]
 // How any two segments cross, a pair asked alone: first 3 off the grid, then 4 without length.
 ghost use Rattle.std.specs.Prelude.{◌≡◌, ◌&&◌};
 ghost use Rattle.geom.specs.Plane.{grid_segment};

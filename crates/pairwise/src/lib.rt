@@ -1,3 +1,4 @@
+#![tactic(auto)]
 // The look over every pair of a list (split/solver.rs): its marks go into a lent list.
 ghost use Rattle.std.specs.Prelude.{false, [], ◌∷◌, ◌≡◌, ◌+◌, ◌*◌, ◌≤◌, ◌<◌, ◌^◌, length};
 ghost use Rattle.whole.specs.Append.{Added};

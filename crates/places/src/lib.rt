@@ -1,3 +1,4 @@
+#![tactic(auto)]
 // A segment as a row of six numbers of a lent list ("Input and answer"): a.x, a.y, b.x, b.y, subject count, clip count.
 ghost use Rattle.std.specs.Prelude.{◌≡◌, ◌+◌, ◌*◌, ◌≤◌, length};
 ghost use Rattle.whole.specs.Kind.{row_at, put_row};

@@ -1,3 +1,4 @@
+#![tactic(auto)]
 // A two-word number by a word, to the nearest: long division with digits of half a word, by a divisor raised until its top bit is set.
 ghost use Rattle.std.specs.Prelude.{◌≡◌, ◌+◌, ◌*◌, ◌^◌, ◌≤◌, ◌<◌};
 ghost use Rattle.limbs.specs.Limbs.{value, two_of, quotient_of, nearest_of};

@@ -1,3 +1,4 @@
+#![tactic(auto)]
 // An answer as three numbers, for callers that take no enum: programs and the languages that link the library.
 ghost use Rattle.std.specs.Prelude.{◌≡◌};
 ghost use Rattle.overlay.specs.Numbers.{refusal, told};
@@ -7,7 +8,7 @@ use overlay::answer::Answer;
 
 // Document 01's number of the answer, m, and the looks made.
 #[repr(C)]
-#[derive(Drop)]
+#[derive(Clone, Copy)]
 pub struct Report {
     pub answer: u64,
     pub segments: u64,

@@ -1,3 +1,4 @@
+#![tactic(auto)]
 // How much a lent list has room for: its whole entries, cut to the limit. A list is told by how many numbers it has.
 ghost use Rattle.std.specs.Prelude.{◌≡◌, min};
 ghost use Rattle.geom.specs.Limits.{work_room, mark_room, scan_room};

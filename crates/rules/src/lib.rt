@@ -1,3 +1,4 @@
+#![tactic(auto)]
 // The seven overlay rules over the sixteen masks: which edges a rule keeps.
 ghost use Rattle.std.specs.Prelude.{◌≡◌, ◌<◌};
 ghost use Rattle.rules.specs.Keep.{kept};

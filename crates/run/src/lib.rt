@@ -1,3 +1,4 @@
+#![tactic(auto)]
 // The run: the input is checked, turned, sorted and merged, looked at and split until it is settled, then swept (core/).
 ghost use Rattle.std.specs.Prelude.{◌≡◌, length};
 ghost use Rattle.whole.specs.Kind.{rows_from};

@@ -8,7 +8,7 @@ ghost use Rattle.scan.specs.Scan.{entries, entry_of as entry_for, entries_from, 
 use geom::{Point, Segment};
 
 // An edge: the number of its segment, and its counts.
-#[derive(Drop)]
+#[derive(Clone, Copy)]
 pub struct Entry {
     pub segment: i64,
     pub subject: i64,

@@ -11,7 +11,7 @@ use edges::Height;
 use geom::Point;
 
 // What a node leaves: so many entries in use, and the sums of the first of them below every edge that starts here.
-#[derive(Drop)]
+#[derive(Clone, Copy)]
 pub struct Node {
     pub used: usize,
     pub known: usize,
@@ -19,13 +19,13 @@ pub struct Node {
 }
 
 // The counts of the entries that pass under a point, and whether one passes through it.
-#[derive(Drop)]
+#[derive(Clone, Copy)]
 struct Below {
     sums: Sums,
     through: bool,
 }
 
-#[derive(Drop)]
+#[derive(Clone, Copy)]
 struct Stayed {
     left: usize,
     below: Below,

@@ -10,7 +10,7 @@ ghost use Rattle.scan.specs.Scan.{entries, EntryOf, OnGrids, no_sums, add_if, su
 use crate::list::Entry;
 use geom::Segment;
 
-#[derive(Drop)]
+#[derive(Clone, Copy)]
 pub struct Sums {
     pub subject: i64,
     pub clip: i64,

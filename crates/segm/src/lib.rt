@@ -1,3 +1,4 @@
+#![tactic(auto)]
 // Equal neighbours of one list merged (segm/merge.rs).
 ghost use Rattle.std.specs.Prelude.{◌≡◌, ◌*◌, ◌≤◌, ◌<◌, nat_abs, length};
 ghost use Rattle.whole.specs.Kind.{rows_from};
@@ -9,7 +10,7 @@ use geom::Segment;
 use groups::Group;
 
 // What merging answers. Joined: equal neighbours were found; Same: there were none. Both say how many segments are left.
-#[derive(Drop)]
+#[derive(Clone, Copy)]
 pub enum Merged {
     Joined(usize),
     Same(usize),

@@ -1,3 +1,4 @@
+#![tactic(auto)]
 // The looks of a run: rows that are sorted and merged are looked at and split until they are settled (core/).
 ghost use Rattle.std.specs.Prelude.{List, ◌≡◌, ◌<◌, ◌≤◌, length};
 ghost use Rattle.whole.specs.Kind.{rows_from};
@@ -10,7 +11,7 @@ ghost use Rattle.settle.specs.Step.{goes_on, StillKept, split_at, looks_allowed,
 
 use overlay::answer::Answer;
 
-#[derive(Drop)]
+#[derive(Clone, Copy)]
 pub enum Step {
     // The run goes on with so many rows.
     Next(usize),

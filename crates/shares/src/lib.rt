@@ -1,3 +1,4 @@
+#![tactic(auto)]
 // A share of a number, to the nearest. No step of it hangs on a test that a processor cannot guess.
 ghost use Rattle.std.specs.Prelude.{◌≡◌, cond, ◌+◌, ◌*◌, ◌/◌, ◌^◌, ◌≤◌, ◌<◌};
 ghost use Rattle.limbs.specs.Limbs.{rounded_of};

@@ -1,3 +1,4 @@
+#![tactic(auto)]
 // A middle crossing: its point is exact, moved to a near end, or left rounded.
 ghost use Rattle.std.specs.Prelude.{◌≡◌, leb};
 ghost use Rattle.geom.specs.Plane.{GridPoint, GridSegment};

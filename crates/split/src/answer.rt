@@ -2,14 +2,14 @@
 use geom::Point;
 
 // Segment number `segment` is cut at `point`.
-#[derive(Drop)]
+#[derive(Clone, Copy)]
 pub struct Mark {
     pub segment: i32,
     pub point: Point,
 }
 
 // What a look answers: how many marks it yields.
-#[derive(Drop)]
+#[derive(Clone, Copy)]
 pub enum Looked {
     Marks(usize),
     // More than 2,048 segments, or the list has not so many (1).
@@ -23,7 +23,7 @@ pub enum Looked {
 }
 
 // What tidying answers: how many marks are left.
-#[derive(Drop)]
+#[derive(Clone, Copy)]
 pub enum Tidied {
     Distinct(usize),
     // The list has not so many marks (1).

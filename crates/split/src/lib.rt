@@ -1,3 +1,4 @@
+#![tactic(auto)]
 // The marks of a look, in a list and in order (split/solver.rs).
 pub mod answer;
 pub mod mark;

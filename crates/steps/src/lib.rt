@@ -1,3 +1,4 @@
+#![tactic(auto)]
 // The steps of a run beside its looks: the input turned forward into the work list, the list sorted and merged, and the work list cleared behind its rows.
 ghost use Rattle.std.specs.Prelude.{false, map, ◌≡◌, ◌*◌, ◌≤◌, pos, length, replicate};
 ghost use Rattle.whole.specs.Kind.{rows_from, front};
@@ -10,7 +11,7 @@ ghost use Rattle.steps.specs.Joining.{join_answer, join_list};
 use segm::Merged;
 
 // How many rows are left, or that a total is too big (9).
-#[derive(Drop)]
+#[derive(Clone, Copy)]
 pub enum Joined {
     Rows(usize),
     TooBig,

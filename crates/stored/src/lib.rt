@@ -1,3 +1,4 @@
+#![tactic(auto)]
 // Stored cases, as text: whole numbers with white space between them (rust/README.md, "Stored cases"). Each is run again, and the answer and
 // every number of the lists that were lent are compared with what is stored.
 ghost use Rattle.std.specs.Prelude.{◌≤◌};
@@ -11,7 +12,7 @@ use read::number;
 
 // How many cases there are, how many of them come out as stored, the number of the first that does not (0 if there is none), and whether
 // nothing is left of the text.
-#[derive(Drop)]
+#[derive(Clone, Copy)]
 struct Tally {
     cases: usize,
     equal: usize,
@@ -20,14 +21,14 @@ struct Tally {
 }
 
 // What was compared is as stored, up to a place in the text.
-#[derive(Drop)]
+#[derive(Clone, Copy)]
 struct Place {
     at: usize,
     good: bool,
 }
 
 // Lengths of lists, and the place behind them in the text.
-#[derive(Drop)]
+#[derive(Clone, Copy)]
 struct Lengths {
     work: usize,
     marks: usize,
@@ -37,7 +38,7 @@ struct Lengths {
     at: usize,
 }
 
-#[derive(Drop)]
+#[derive(Clone, Copy)]
 struct Asked {
     settings: Settings,
     at: usize,

@@ -2,7 +2,7 @@
 ghost use Rattle.std.specs.Prelude.{◌≤◌};
 
 // A number by its size and sign, and the place behind it; not good where there is none. One of more than eleven digits is cut there.
-#[derive(Drop)]
+#[derive(Clone, Copy)]
 pub(crate) struct Word {
     pub size: u64,
     pub minus: bool,

@@ -1,3 +1,4 @@
+#![tactic(auto)]
 // An answer as text, put into a list of bytes as far as there is room. Every function answers the place behind what it puts.
 ghost use Rattle.std.specs.Prelude.{◌∷◌, [], ◌≡◌, ◌+◌, ◌*◌, ◌≤◌, nat_abs, length};
 ghost use Rattle.whole.specs.Kind.{row_at};

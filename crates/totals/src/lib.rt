@@ -1,3 +1,4 @@
+#![tactic(auto)]
 // Sums in 64 bits: a count more, and whether a number is 0.
 ghost use Rattle.std.specs.Prelude.{◌≡◌, ◌+◌, ◌*◌, ◌≤◌, nat_abs, pos, ◌+ℤ◌};
 ghost use Rattle.geom.specs.Plane.{sameZ};

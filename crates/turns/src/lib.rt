@@ -1,3 +1,4 @@
+#![tactic(auto)]
 // The turn of three points: two products of gaps, one less the other.
 ghost use Rattle.std.specs.Prelude.{◌≡◌, ◌-ℤ◌, ◌*ℤ◌};
 ghost use Rattle.std.specs.Int.{w64};

@@ -148,7 +148,7 @@ module _ {A : Type 0} (R : Kind A) where
       let n : length (p ++ R.numbers v) ≡ w * suc i = length-append p (R.numbers v) ∙ omega (arith, R.sized v) in
       let first : R.make (drop (w * i) (p ++ ((R.numbers v ++ flat R vs) ++ t))) ≡ v =
       ap R.make (drop_at p ((R.numbers v ++ flat R vs) ++ t) (w * i) e ∙ a) ∙ R.made v r in
-      rw (first, l) (ap (λ (x : List A). v ∷ x) (rows_behind (p ++ R.numbers v) (suc i) vs t n))
+      rw first (ap (λ (x : List A). v ∷ x) (ap (λ (q : List ℤ). rows_from R q (suc i) (length vs)) l ∙ rows_behind (p ++ R.numbers v) (suc i) vs t n))
 
   pub rows-front : (xs : List ℤ) (vs : List A) → rows_from R (front R xs vs) 0 (length vs) ≡ vs
   unfolding front

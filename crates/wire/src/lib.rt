@@ -1,3 +1,4 @@
+#![tactic(auto)]
 // The bytes that the program reads, on a slice: a list asked for, taken apart.
 ghost use Rattle.std.specs.Prelude.{◌≡◌, ◌+◌, ◌*◌, ◌≤◌, length};
 ghost use Rattle.std.proofs.lemmas.List.Edits.{sets};
@@ -6,7 +7,7 @@ ghost use Rattle.wire.specs.Asked.{decoded_as, decoded_list};
 
 use checks::Settings;
 
-#[derive(Drop)]
+#[derive(Clone, Copy)]
 pub enum Decoded {
     // Whole: what is asked. Its segments are then the first rows of the input list.
     Asked(Settings),

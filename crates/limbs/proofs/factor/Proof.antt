@@ -11,10 +11,10 @@ use Rattle.limbs.proofs.factor.Tie as tie
 short : (c : tie.Start) → count_leading_zeros 64 c.args.d < 64
 short c = let t = leading_top 64 c.args.d c.requires c.ranges.d.fits in omega arith
 
-cast-result : tie.Need-overflow-cast-result
+cast-result : tie.Need-overflow_cast-result
 cast-result c = omega (arith, short c)
 
-shl-result : tie.Need-overflow-shl-result
+shl-result : tie.Need-overflow_shl-result
 shl-result c = short c
 
 returns : tie.Need-returns

@@ -8,19 +8,19 @@ use Rattle.limbs.proofs.product.Tie as tie
 parts : (c : tie.Start) → Halves c.args.a c.args.b
 parts c = halves c.args.a c.args.b c.ranges.a.fits c.ranges.b.fits
 
-mul-first : tie.Need-overflow-mul-first
+mul-first : tie.Need-overflow_mul-first
 mul-first c = let p = parts c in omega arith
 
-mul-second : tie.Need-overflow-mul-second
+mul-second : tie.Need-overflow_mul-second
 mul-second c = let p = parts c in omega arith
 
-add-second : tie.Need-overflow-add-second
+add-second : tie.Need-overflow_add-second
 add-second c = let p = parts c in omega arith
 
-mul-third : tie.Need-overflow-mul-third
+mul-third : tie.Need-overflow_mul-third
 mul-third c = let p = parts c in omega arith
 
-add-third : tie.Need-overflow-add-third
+add-third : tie.Need-overflow_add-third
 add-third c = let p = parts c in omega arith
 
 mul-t10 : tie.Need-overflow-mul-t10
