@@ -1,0 +1,18 @@
+-- `lists::clear_i64` meets its contract: the list is filled with zero from the front, one place a turn.
+use Prim.Native.Nat.{◌-◌}
+use native.Mathlib.Omega.{arith}
+use lib.IntN.{pos}
+use Rattle.lists.proofs.Write.{Filling, filling_begins, filling_goes_on, filling_ends}
+use Rattle.lists.proofs.clear_i64.Goals as goal
+
+pub loop-i-init : goal.loop-i-init
+loop-i-init c = filling_begins (pos 0) c.args.longs.now
+
+pub loop-i-preserved : goal.loop-i-preserved
+loop-i-preserved c = filling_goes_on c.loop-i.invariant (omega arith)
+
+pub shape_of-longs : goal.shape_of-longs
+shape_of-longs c = c.loop-i.invariant.size
+
+pub returns : goal.returns
+returns c = filling_ends c.loop-i.invariant (omega arith)

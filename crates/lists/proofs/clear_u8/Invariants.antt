@@ -1,0 +1,11 @@
+-- `lists::clear_u8` meets its contract: the list is filled with zero from the front, one place a turn.
+use Prim.Native.Nat.{◌-◌}
+use native.Mathlib.Omega.{arith}
+use Rattle.lists.proofs.Write.{Filling, filling_begins, filling_goes_on, filling_ends}
+use Rattle.lists.proofs.clear_u8.Given as goal
+
+abbrev pub invariant-loop-i : goal.invariant-loop-i
+invariant-loop-i l = Filling 0 l.initial.bytes l.bytes l.i-end l.i
+
+abbrev pub decreases-loop-i : goal.decreases-loop-i
+decreases-loop-i l = l.i-end - l.i

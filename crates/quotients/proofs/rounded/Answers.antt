@@ -1,0 +1,16 @@
+-- `quotients::rounded` meets its contract: a rest of half the divisor, or more, counts up.
+use mathlib.Core.Path.{sym}
+use native.Mathlib.Omega.{arith}
+use borrow.Author.Rules.{rules}
+use Rattle.limbs.specs.Nearest.{answer-whole, answer_large}
+use Rattle.quotients.proofs.Rounding.{down, up}
+use Rattle.quotients.proofs.rounded.Goals as goal
+
+pub returns-then-x-d : goal.returns-then-x-d
+returns-then-x-d c = sym (answer-whole (omega arith) (down _ (omega arith)) (omega arith))
+
+pub returns-then-whole : goal.returns-then-whole
+returns-then-whole c = sym (answer_large (omega arith) (up _ (omega arith) (omega arith)) (omega arith))
+
+pub returns : goal.returns
+returns c = sym (answer-whole (omega arith) (up _ (omega arith) (omega arith)) (omega arith))
