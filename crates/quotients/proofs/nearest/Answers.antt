@@ -11,53 +11,46 @@ use Rattle.quotients.proofs.Long.{stays-below, Raises, raises, room}
 use Rattle.quotients.proofs.Rounding.{too_high, raised_alike}
 use borrow.Author.Rules.{rules}
 use Rattle.quotients.proofs.nearest.Goals as goal
+use Rattle.quotients.proofs.nearest.Goals.{After-divide, After-factor-f, After-raised, Else-d-eq0}
 
-some : (c : goal.Else-d-eq0) → 0 < c.args.d
+some : (c : Else-d-eq0) → 0 < c.args.d
 some c = omega arith
 
 pub returns-then-d-eq0 : goal.returns-then-d-eq0
 returns-then-d-eq0 c = cc (answer-none (value c.args.n) c.if-d-eq0.true)
 
--- GONE nonzero-div-t7
--- div-t7 : tie.Need-nonzero-div-t7
--- div-t7 c = search rules
-
--- GONE nonzero-rem-t8
--- rem-t8 : tie.Need-nonzero-rem-t8
--- rem-t8 c = search rules
-
 pub rounded-requires : goal.rounded-requires
-rounded-requires c = mod-lt _ (some (goal.at.rounded-requires c).Else-d-eq0)
+rounded-requires c = mod-lt _ (some c.before.before.before.before)
 
 pub returns-then-n-eq0 : goal.returns-then-n-eq0
 returns-then-n-eq0 c =
-let x = c.args in
+    let x = c.args in
     let e : x.n.low / x.d * x.d + x.n.low % x.d ≡ value x.n = div-add-mod' x.n.low x.d ∙ one_word x.n c.if-n-eq0.true in
     cc c.rounded.ensures
 
 pub returns-then-d-n : goal.returns-then-d-n
 returns-then-d-n c =
-let x = c.args in
-    sym (too_high x.n.high x.n.low x.d (some (goal.at.returns-then-d-n c).Else-d-eq0) (omega arith))
+    let x = c.args in
+    sym (too_high x.n.high x.n.low x.d (some c.before.before.before.before) (omega arith))
 
-lift : (c : goal.After-factor-f) → Raises c.args.d c.factor-f.result
+lift : (c : After-factor-f) → Raises c.args.d c.factor-f.result
 lift c =
-rw c.factor-f.ensures (raises c.args.d (some e) c.ranges.d.fits)
+    rw c.factor-f.ensures (raises c.args.d (some c.before.before.before.before.before) c.ranges.d.fits)
 
 pub overflow_mul-divisor : goal.overflow_mul-divisor
-overflow_mul-divisor c = record { fits = (lift c).ranges }
+overflow_mul-divisor c = record { fits = (lift c).fits }
 
 pub raised-requires : goal.raised-requires
 raised-requires c = ((lift c).some, room (lift c) (omega arith))
 
-multiple : (c : goal.After-raised) → value c.raised.result ≡ value c.args.n * c.factor-f.result
+multiple : (c : After-raised) → value c.raised.result ≡ value c.args.n * c.factor-f.result
 multiple c = two-value c.raised.result _ c.raised.ensures
 
 pub divide-requires : goal.divide-requires
 divide-requires c =
-((lift (goal.at.divide-requires c).After-factor-f).top, stays-below c.raised.result.low (multiple c) (omega arith) (omega arith) (lift (goal.at.divide-requires c).After-factor-f).some)
+    ((lift c.before).top, stays-below c.raised.result.low (multiple c) (omega arith) (omega arith) (lift c.before).some)
 
-divided : (c : goal.After-divide) → Divided (value c.raised.result) (c.args.d * c.factor-f.result) c.divide.result.whole c.divide.result.rest
+divided : (c : After-divide) → Divided (value c.raised.result) (c.args.d * c.factor-f.result) c.divide.result.whole c.divide.result.rest
 divided c = let x = lift c.before.before in quotient_divided c.divide.result _ _ (omega arith) c.divide.ensures
 
 pub rounded-requires-2 : goal.rounded-requires-2
@@ -65,5 +58,5 @@ rounded-requires-2 c = (divided c).below
 
 pub returns : goal.returns
 returns c =
-let x = c.args in
-    cc (c.rounded-2.ensures, (divided (goal.at.returns c).After-divide).sum, multiple (goal.at.returns c).After-raised, raised_alike (value x.n) x.d c.factor-f.result (some (goal.at.returns c).Else-d-eq0) (lift (goal.at.returns c).After-factor-f).some)
+    let x = c.args in
+    cc (c.rounded-2.ensures, (divided c.before).sum, multiple c.before.before, raised_alike (value x.n) x.d c.factor-f.result (some c.before.before.before.before.before.before.before.before) (lift c.before.before.before).some)

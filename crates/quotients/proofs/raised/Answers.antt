@@ -7,16 +7,17 @@ use Rattle.limbs.specs.Limbs.{two-value, value}
 use Rattle.limbs.proofs.Words.{two_is}
 use Rattle.quotients.proofs.Long.{carry_below, carry_over}
 use Rattle.quotients.proofs.raised.Goals as goal
+use Rattle.quotients.proofs.raised.Goals.{After-product-carried}
 
-carried : (c : goal.After-product-carried) → value c.product-carried.result ≡ c.args.n.low * c.args.f
+carried : (c : After-product-carried) → value c.product-carried.result ≡ c.args.n.low * c.args.f
 carried c = two-value c.product-carried.result _ c.product-carried.ensures
 
-carry : (c : goal.After-product-carried) → c.product-carried.result.high < c.args.f
+carry : (c : After-product-carried) → c.product-carried.result.high < c.args.f
 carry c = carry_below c.product-carried.result.low (carried c) (omega arith) c.requires.0
 
 pub overflow_add-result : goal.overflow_add-result
-overflow_add-result c = omega (arith, carry (goal.at.overflow_add-result c).After-product-carried)
+overflow_add-result c = omega (arith, carry c.before.before)
 
 pub returns : goal.returns
 returns c =
-two_is _ _ _ (carry_over c.args.n.high c.args.n.low c.args.f c.product-carried.result.high c.product-carried.result.low (carried (goal.at.returns c).After-product-carried)) (omega arith)
+    two_is _ _ _ (carry_over c.args.n.high c.args.n.low c.args.f c.product-carried.result.high c.product-carried.result.low (carried c.before.before)) (omega arith)
