@@ -2,11 +2,7 @@
 use lib.IntN.{pos}
 use native.Mathlib.Omega.{arith}
 use Rattle.order.proofs.Bits.{eqb_bits}
-use Rattle.totals.proofs.zero.Statement.{statement}
-use Rattle.totals.proofs.zero.Tie as tie
+use Rattle.totals.proofs.zero.Goals as goal
 
-returns : tie.Need-returns
+pub returns : goal.returns
 returns c = eqb_bits c.args.z (pos 0) c.ranges.z (record { sfits = omega arith })
-
-pub zero-spec : {M : Type 1} → statement M
-zero-spec = tie.close (tie.spec returns)

@@ -1,0 +1,29 @@
+-- `totals::total` meets its contract: a count is at most 2^31 from 0, so the sum is at most that much further than before.
+use mathlib.Core.Path.{refl}
+use native.Mathlib.Omega.{arith}
+use lib.IntN.{◌+ℤ◌}
+use lib.Signed.{nat_abs-le}
+use mir.Facts.{to_z-of_z}
+use mir.Syntax.{w32, w64}
+use mir.Val.{SFits}
+use borrow.Author.Rules.{rules}
+use Rattle.whole.specs.Fit.{abs-add, sum_fits, widen}
+use Rattle.totals.proofs.total.Goals as goal
+use Rattle.totals.proofs.total.Goals.{Start}
+
+fits-c : (c : Start) → SFits w32 c.args.c.0
+fits-c c = search rules
+
+fits-total : (c : Start) → SFits w64 (c.args.sum +ℤ c.args.c.0)
+fits-total c = sum_fits w64 c.args.sum c.args.c.0 (omega (arith, c.requires, nat_abs-le c.args.c.0 (fits-c c).sfits))
+
+pub overflow_cast-result : goal.overflow_cast-result
+overflow_cast-result c = rw (to_z-of_z (fits-c c.before.before)) (widen (fits-c c.before.before))
+
+pub overflow_add-result : goal.overflow_add-result
+overflow_add-result c = rw (to_z-of_z c.ranges.sum, to_z-of_z (fits-c c.before.before), to_z-of_z (widen (fits-c c.before.before))) (fits-total c.before.before)
+
+pub returns : goal.returns
+returns c =
+    rw (to_z-of_z c.ranges.sum, to_z-of_z (fits-c c.before.before), to_z-of_z (widen (fits-c c.before.before)), to_z-of_z (fits-total c.before.before))
+    (refl, omega (arith, abs-add c.args.sum c.args.c.0, nat_abs-le c.args.c.0 (fits-c c.before.before).sfits))
