@@ -18,9 +18,9 @@ second c = let h = grid-fits c.requires.on_grid_2 in held (c.wide-2.ensures ∙ 
 pub minus-requires : goal.minus-requires
 minus-requires c =
     let p = c.requires in
-    rw (first c.before.before, second c) (gap_fits p.0 p.1)
+    rw (first c.before.before, second c) (gap_fits p.on_grid p.on_grid_2)
 
 pub returns : goal.returns
 returns c =
     let p = c.requires in
-    held (c.minus.ensures ∙ rw (first c.before.before.before, second c.before)) (gap_fits p.0 p.1)
+    held (c.minus.ensures ∙ rw (first c.before.before.before, second c.before)) (gap_fits p.on_grid p.on_grid_2)
