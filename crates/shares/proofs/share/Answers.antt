@@ -9,10 +9,10 @@ use Rattle.limbs.proofs.Words.{lower}
 use Rattle.quotients.proofs.Long.{Raises, raises}
 use Rattle.shares.proofs.Halves.{half_added, room, first, high, Parts, parts, factor_short, Raised, raised}
 use Rattle.shares.proofs.share.Goals as goal
-use Rattle.shares.proofs.share.Goals.{After-factor-f, Then-h-lt4294967296}
+use Rattle.shares.proofs.share.Goals.{After-factor-f, Start, Then-h-lt4294967296}
 
-split : (s : tie.Start) → Parts s.args.n s.args.d s.args.a
-split s = parts s.args.n s.args.d s.args.a s.ranges.n.fits s.requires.0 s.requires.1 s.requires.2
+split : (c : Start) → Parts c.args.n c.args.d c.args.a
+split c = parts c.args.n c.args.d c.args.a c.ranges.n.fits c.requires.0 c.requires.1 c.requires.2
 
 pub overflow_mul-first : goal.overflow_mul-first
 overflow_mul-first c = let p = split c in omega arith
@@ -54,7 +54,7 @@ numbers c = let p = split c.before.before in raised (lift c) p.sum p.small
 pub overflow_mul-low : goal.overflow_mul-low
 overflow_mul-low c =
     let x = c.args in
-    let m = room (lower (first x.n x.d x.a)) c.factor-f.result (omega arith) (factor_short (lift c) c.if-h-lt4294967296.false (split s).below) in
+    let m = room (lower (first x.n x.d x.a)) c.factor-f.result (omega arith) (factor_short (lift c) c.if-h-lt4294967296.false (split c).below) in
     omega arith
 
 pub overflow_mul-h-2 : goal.overflow_mul-h-2
@@ -64,7 +64,7 @@ pub overflow_add-h-3 : goal.overflow_add-h-3
 overflow_add-h-3 c = let l = lift c in let n = numbers c in omega arith
 
 pub overflow_mul-d : goal.overflow_mul-d
-overflow_mul-d c = record { fits = (lift c).ranges }
+overflow_mul-d c = record { fits = (lift c).fits }
 
 pub short_digit-requires : goal.short_digit-requires
 short_digit-requires c = ((lift c).top, (numbers c).below, omega arith)

@@ -3,9 +3,10 @@ use native.Mathlib.Omega.{arith}
 use borrow.Author.Rules.{rules}
 use Rattle.shares.proofs.Short.{Short, short, counted}
 use Rattle.shares.proofs.short_digit.Goals as goal
+use Rattle.shares.proofs.short_digit.Goals.{Start}
 
-guess : (s : tie.Start) → Short s.args.h s.args.l s.args.d
-guess s = short s.args.h s.args.l s.args.d s.requires.0 s.ranges.d.fits s.requires.1 s.requires.2
+guess : (c : Start) → Short c.args.h c.args.l c.args.d
+guess c = short c.args.h c.args.l c.args.d c.requires.0 c.ranges.d.fits c.requires.1 c.requires.2
 
 pub overflow_mul-have : goal.overflow_mul-have
 overflow_mul-have c = let g = (guess c).guess in omega arith
