@@ -54,7 +54,7 @@ numbers c = let p = split c.before.before in raised (lift c) p.sum p.small
 pub overflow_mul-low : goal.overflow_mul-low
 overflow_mul-low c =
     let x = c.args in
-    let m = room (lower (first x.n x.d x.a)) c.factor-f.result (omega arith) (factor_short (lift c) c.if-h-lt4294967296.false (split c).below) in
+    let m = room (lower (first x.n x.d x.a)) c.factor-f.result (omega arith) (factor_short (lift c) c.if-h-lt4294967296.false (split c.before.before).below) in
     omega arith
 
 pub overflow_mul-h-2 : goal.overflow_mul-h-2
