@@ -9,8 +9,7 @@ use Rattle.geom.specs.declared.Segment.{Segment}
 use Rattle.middles.specs.declared.End.{End}
 use Rattle.middles.specs.Point.{far, nearer, reach}
 use Rattle.middles.specs.Middle.{end_of}
-use Rattle.middles.proofs.nearer.Statement.{statement}
-use Rattle.middles.proofs.nearer.Tie as tie
+use Rattle.middles.proofs.nearer.Goals as goal
 
 abbrev end : Point → ℕ → End
 end p r = record { point = p; far = r }
@@ -24,23 +23,12 @@ module _ {x y : ℕ} (v : Segment) (p : Point) (ex : x ≡ far v.a p) (ey : y �
   unfolding nearer reach
   at_b h = rw (← ex, ← ey, le-ltb x y h) (ap (end v.b) (omega arith))
 
-far-requires : tie.Need-far-requires
-far-requires c κs = search rules
+pub returns-then-a-b : goal.returns-then-a-b
+returns-then-a-b c =
+    let s = c.args in
+    at_a s.v s.p c.far-a.ensures c.far-b.ensures c.if-a-b.true
 
-far-requires-2 : tie.Need-far-requires-2
-far-requires-2 c κs = search rules
-
-returns : tie.Need-returns
+pub returns : goal.returns
 returns c =
-    let f = c.before.before in
-    let s = f.before.before.args in
-    at_a s.v s.p f.before.far.ensures f.far2.ensures c.before.if1.true
-
-returns-2 : tie.Need-returns-2
-returns-2 c =
-    let f = c.before.before in
-    let s = f.before.before.args in
-    at_b s.v s.p f.before.far.ensures f.far2.ensures c.before.if1.false
-
-pub nearer-spec : {M : Type 1} → statement M
-nearer-spec = tie.close (tie.spec far-requires far-requires-2 returns returns-2)
+    let s = c.args in
+    at_b s.v s.p c.far-a.ensures c.far-b.ensures c.if-a-b.false
