@@ -12,9 +12,9 @@ held c = search rules
 
 pub returns-then-c-ltminus1073741824 : goal.returns-then-c-ltminus1073741824
 unfolding on_grid
-returns-then-c-ltminus1073741824 c = rw (rw (held c.before.before.before) at c.if-c-ltminus1073741824.true)
+returns-then-c-ltminus1073741824 c = rw (rw (held (goal.at.returns-then-c-ltminus1073741824 c).Start) at c.if-c-ltminus1073741824.true)
 
 pub returns : goal.returns
 unfolding on_grid
 returns c =
-    rw (held c.before.before.before.before.before, rw (held c.before.before.before.before.before) at c.if-c-ltminus1073741824.false)
+    rw (held (goal.at.returns c).Start, rw (held (goal.at.returns c).Start) at c.if-c-ltminus1073741824.false)

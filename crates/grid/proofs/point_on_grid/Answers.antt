@@ -6,8 +6,8 @@ use Rattle.grid.proofs.point_on_grid.Goals as goal
 
 pub returns-then-on_grid : goal.returns-then-on_grid
 unfolding grid_point
-returns-then-on_grid c = rw (sym c.on_grid_lem.ensures ∙ c.if-on_grid.true) c.on_grid-then-on_grid.ensures
+returns-then-on_grid c = rw (sym c.on_grid.ensures ∙ c.if-on_grid.true) c.on_grid-then-on_grid.ensures
 
 pub returns : goal.returns
 unfolding grid_point
-returns c = rw (sym c.on_grid_lem.ensures ∙ c.if-on_grid.false)
+returns c = rw (sym c.on_grid.ensures ∙ c.if-on_grid.false)

@@ -17,37 +17,28 @@ use Rattle.places.proofs.write.Goals.{After-put_two, After-put_two-2, After-put_
 room : (c : Start) → 6 * c.args.i + 6 < 2 ^ 64
 room c = omega arith
 
-a-fits : (c : Start) → SFits w32 c.args.v.a.x.0 × SFits w32 c.args.v.a.y.0
-a-fits c = search rules
+first : (c : After-put_two) → let s = c.args in c.put_two.new.rows ≡ two s.rows.now (6 * s.i) s.v.a.x.0 s.v.a.y.0
+first c = let h : SFits w32 c.args.v.a.x.0 × SFits w32 c.args.v.a.y.0 = search rules in rw (to_z-of_z h.0, to_z-of_z h.1) at c.put_two.ensures
 
-b-fits : (c : Start) → SFits w32 c.args.v.b.x.0 × SFits w32 c.args.v.b.y.0
-b-fits c = search rules
-
-counts-fit : (c : Start) → SFits w32 c.args.v.subject.0 × SFits w32 c.args.v.clip.0
-counts-fit c = search rules
-
-first : (c : After-put_two) → let s = c.args in c.put_two.new.0 ≡ two s.rows.now (6 * s.i) s.v.a.x.0 s.v.a.y.0
-first c = let h = a-fits c.before.before.before.before in rw (to_z-of_z h.0, to_z-of_z h.1) at c.put_two.ensures
-
-second : (c : After-put_two-2) → let s = c.args in c.put_two-2.new.0 ≡ two c.put_two.new.0 (6 * s.i + 2) s.v.b.x.0 s.v.b.y.0
-second c = let h = b-fits c.before.before.before.before.before.before.before.before.before in rw (to_z-of_z h.0, to_z-of_z h.1) at c.put_two-2.ensures
+second : (c : After-put_two-2) → let s = c.args in c.put_two-2.new.rows ≡ two c.put_two.new.rows (6 * s.i + 2) s.v.b.x.0 s.v.b.y.0
+second c = let h : SFits w32 c.args.v.b.x.0 × SFits w32 c.args.v.b.y.0 = search rules in rw (to_z-of_z h.0, to_z-of_z h.1) at c.put_two-2.ensures
 
 pub overflow_add-k-2 : goal.overflow_add-k-2
-overflow_add-k-2 c = let r = room c.before.before.before.before.before.before.before.before.before.before.before in omega arith
+overflow_add-k-2 c = let r = room (goal.at.overflow_add-k-2 c).Start in omega arith
 
 pub put_two-requires-3 : goal.put_two-requires-3
 put_two-requires-3 c =
     let s = c.args in
-    omega (arith, c.requires, ap length (first c.before.before.before.before.before.before.before.before.before), ap length (second c.before.before.before.before), length_two s.rows.now (6 * s.i) s.v.a.x.0 s.v.a.y.0, length_two c.put_two.new.0 (6 * s.i + 2) s.v.b.x.0 s.v.b.y.0)
+    omega (arith, c.requires, ap length (first (goal.at.put_two-requires-3 c).After-put_two), ap length (second (goal.at.put_two-requires-3 c).After-put_two-2), length_two s.rows.now (6 * s.i) s.v.a.x.0 s.v.a.y.0, length_two c.put_two.new.rows (6 * s.i + 2) s.v.b.x.0 s.v.b.y.0)
 
-third : (c : After-put_two-3) → let s = c.args in c.put_two-3.new.0 ≡ two c.put_two-2.new.0 (6 * s.i + 4) s.v.subject.0 s.v.clip.0
+third : (c : After-put_two-3) → let s = c.args in c.put_two-3.new.rows ≡ two c.put_two-2.new.rows (6 * s.i + 4) s.v.subject.0 s.v.clip.0
 third c =
-    let h = counts-fit c.before.before.before.before.before.before.before.before.before.before.before.before.before.before in
+    let h : SFits w32 c.args.v.subject.0 × SFits w32 c.args.v.clip.0 = search rules in
     rw (to_z-of_z h.0, to_z-of_z h.1) at c.put_two-3.ensures
 
 pub returns : goal.returns
 returns c =
     let s = c.args in
-    third c.before
-    ∙ ap (λ (l : List ℤ). two l (6 * s.i + 4) s.v.subject.0 s.v.clip.0) (second c.before.before.before.before.before.before ∙ ap (λ (l : List ℤ). two l (6 * s.i + 2) s.v.b.x.0 s.v.b.y.0) (first c.before.before.before.before.before.before.before.before.before.before.before))
+    third (goal.at.returns c).After-put_two-3
+    ∙ ap (λ (l : List ℤ). two l (6 * s.i + 4) s.v.subject.0 s.v.clip.0) (second (goal.at.returns c).After-put_two-2 ∙ ap (λ (l : List ℤ). two l (6 * s.i + 2) s.v.b.x.0 s.v.b.y.0) (first (goal.at.returns c).After-put_two))
     ∙ two_thrice s.rows.now s.i s.v

@@ -18,12 +18,12 @@ fits-total : (c : Start) → SFits w64 (c.args.sum +ℤ c.args.c.0)
 fits-total c = sum_fits w64 c.args.sum c.args.c.0 (omega (arith, c.requires, nat_abs-le c.args.c.0 (fits-c c).sfits))
 
 pub overflow_cast-result : goal.overflow_cast-result
-overflow_cast-result c = rw (to_z-of_z (fits-c c.before.before)) (widen (fits-c c.before.before))
+overflow_cast-result c = rw (to_z-of_z (fits-c (goal.at.overflow_cast-result c).Start)) (widen (fits-c (goal.at.overflow_cast-result c).Start))
 
 pub overflow_add-result : goal.overflow_add-result
-overflow_add-result c = rw (to_z-of_z c.ranges.sum, to_z-of_z (fits-c c.before.before), to_z-of_z (widen (fits-c c.before.before))) (fits-total c.before.before)
+overflow_add-result c = rw (to_z-of_z c.ranges.sum, to_z-of_z (fits-c (goal.at.overflow_add-result c).Start), to_z-of_z (widen (fits-c (goal.at.overflow_add-result c).Start))) (fits-total (goal.at.overflow_add-result c).Start)
 
 pub returns : goal.returns
 returns c =
-    rw (to_z-of_z c.ranges.sum, to_z-of_z (fits-c c.before.before), to_z-of_z (widen (fits-c c.before.before)), to_z-of_z (fits-total c.before.before))
-    (refl, omega (arith, abs-add c.args.sum c.args.c.0, nat_abs-le c.args.c.0 (fits-c c.before.before).sfits))
+    rw (to_z-of_z c.ranges.sum, to_z-of_z (fits-c (goal.at.returns c).Start), to_z-of_z (widen (fits-c (goal.at.returns c).Start)), to_z-of_z (fits-total (goal.at.returns c).Start))
+    (record { value = refl; result_bound = omega (arith, abs-add c.args.sum c.args.c.0, nat_abs-le c.args.c.0 (fits-c (goal.at.returns c).Start).sfits) })
