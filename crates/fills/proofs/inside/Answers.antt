@@ -4,7 +4,7 @@ use native.Mathlib.Omega.{arith}
 use lib.ListN.{get_or-eq_default}
 use mir.Facts.{to_z-of_z}
 use Rattle.fills.specs.Inside.{inside}
-use Rattle.fills.proofs.Parity.{zero_bits, odd_bits, half_fits}
+use Rattle.fills.proofs.Parity.{zero_bits, odd_bits}
 use Rattle.fills.proofs.inside.Goals as goal
 
 pub returns-in-0 : goal.returns-in-0
