@@ -1,16 +1,15 @@
 -- Zero and odd, read off the bits of a signed 64-bit number. The remainder by 2 has the number's sign, so its size is that of the number's size. Assumes nothing.
 use mathlib.Core.Path.{◌≡◌, refl, sym, ap, ◌∙◌}
 use mathlib.Core.Bool.{not}
-use Prim.Native.Nat.{ℕ, zero, suc, ◌-◌, ◌/◌, ◌%◌, ◌<◌, ◌^◌}
+use Prim.Native.Nat.{ℕ, zero, suc, ◌-◌, ◌%◌, ◌<◌, ◌^◌}
 use native.Mathlib.Omega.{arith}
 use lib.Dec.{eqb, eqb-suc-zero}
 use lib.IntN.{ℤ, pos, negsuc, neg_ℤ, nat_abs}
-use lib.Signed.{quot_z, rem_z, mag_rem}
+use lib.Signed.{rem_z, mag_rem}
 use mir.Syntax.{w64}
 use mir.Val.{SFits, of_z}
 use mir.ValLaws.{sfits_le}
 use borrow.Author.Tests.{ne_eqb}
-use Rattle.whole.specs.Order.{zz, neg_is, mag_is}
 
 pub zero_bits : (z : ℤ) → SFits w64 z → eqb (of_z w64 z) 0 ≡ eqb (nat_abs z) 0
 zero_bits (pos n) h = refl
@@ -32,8 +31,3 @@ one_of_two (suc (suc r)) h = absurd (omega arith)
 pub odd_bits : (z : ℤ) → SFits w64 z → not (eqb (of_z w64 (rem_z z (pos 2))) 0) ≡ eqb (nat_abs z % 2) 1
 odd_bits z h =
     ap not (zero_bits (rem_z z (pos 2)) (sfits_le (mag_rem z (pos 2)) h)) ∙ ap (λ (r : ℕ). not (eqb r 0)) (abs_rem z) ∙ one_of_two (nat_abs z % 2) (omega arith)
-
-pub half_fits : (z : ℤ) → SFits w64 z → SFits w64 (quot_z z (pos 2))
-half_fits (pos n) h = record { sfits = omega (arith, h.sfits) }
-half_fits (negsuc n) h =
-    let p = pos (suc n / 2) in record { sfits = omega (zz, h.sfits, neg_is p, mag_is (neg_ℤ p)) }
