@@ -5,7 +5,6 @@ use lib.IntN.{ℤ, pos}
 use lib.Signed.{lt_z}
 use mir.Syntax.{w64}
 use mir.Val.{to_z, of_z}
-use borrow.Author.Rules.{rules}
 use Rattle.whole.specs.Fit.{held}
 use Rattle.geom.specs.Plane.{against, sameZ}
 use Rattle.geom.specs.Bounds.{turn-fits}

@@ -1,6 +1,5 @@
 -- `is_alive`: not right of its left end, and left of its right end.
 use mathlib.Core.Path.{◌∙◌, sym}
-use borrow.Author.Rules.{rules}
 use Rattle.edges.proofs.Under.{unborn, begun}
 use Rattle.edges.proofs.is_alive.Goals as goal
 

@@ -1,6 +1,5 @@
 -- `is_below`: alive, and then under.
 use mathlib.Core.Path.{◌∙◌, sym}
-use borrow.Author.Rules.{rules}
 use Rattle.edges.specs.Below.{below}
 use Rattle.edges.proofs.is_below.Goals as goal
 

@@ -1,6 +1,5 @@
 -- `is_live` is the definition's two tests.
 use mathlib.Core.Path.{◌∙◌, sym}
-use borrow.Author.Rules.{rules}
 use Rattle.edges.specs.Below.{live}
 use Rattle.edges.proofs.is_live.Goals as goal
 

@@ -1,6 +1,5 @@
 -- `is_under`: the turn at e.a decides, and where it is 0 the slope.
 use mathlib.Core.Path.{◌∙◌, sym, ap}
-use borrow.Author.Rules.{rules}
 use Rattle.edges.specs.declared.Height.{Height}
 use Rattle.edges.proofs.Under.{by_height, by_slope}
 use Rattle.edges.proofs.is_under.Goals as goal

@@ -1,12 +1,11 @@
 -- `enter`: entry after entry is added where its segment is live (Coming).
 use mathlib.Core.Path.{◌≡◌, sym, ap, ◌∙◌}
-use Prim.Native.Nat.{◌+◌, ◌-◌, ◌≤◌}
+use Prim.Native.Nat.{◌+◌, ◌-◌}
 use native.Mathlib.Omega.{arith}
-use borrow.Author.Rules.{rules}
-use Rattle.whole.specs.AppendLaws.{Coming, coming-all, coming-step, coming-none}
+use Rattle.whole.specs.AppendLaws.{coming-all, coming-step, coming-none}
 use Rattle.whole.specs.Sum.{keep, keep-yes, keep_no}
 use Rattle.edges.specs.Below.{live}
-use Rattle.scan.specs.Scan.{entries, segment_at, entry_of, entries_from, live_at}
+use Rattle.scan.specs.Scan.{segment_at, entry_of, entries_from, live_at}
 use Rattle.scan.proofs.Entries.{entries-step, entries-done}
 use Rattle.scan.proofs.list.enter.Goals as goal
 use Rattle.scan.proofs.list.enter.Goals.{After-is_live}

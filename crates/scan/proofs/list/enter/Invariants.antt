@@ -1,13 +1,8 @@
 -- `enter`: entry after entry is added where its segment is live (Coming).
-use mathlib.Core.Path.{◌≡◌, sym, ap, ◌∙◌}
 use Prim.Native.Nat.{◌+◌, ◌-◌, ◌≤◌}
-use native.Mathlib.Omega.{arith}
-use borrow.Author.Rules.{rules}
-use Rattle.whole.specs.AppendLaws.{Coming, coming-all, coming-step, coming-none}
-use Rattle.whole.specs.Sum.{keep, keep-yes, keep_no}
-use Rattle.edges.specs.Below.{live}
-use Rattle.scan.specs.Scan.{entries, segment_at, entry_of, entries_from, live_at}
-use Rattle.scan.proofs.Entries.{entries-step, entries-done}
+use Rattle.whole.specs.AppendLaws.{Coming}
+use Rattle.whole.specs.Sum.{keep}
+use Rattle.scan.specs.Scan.{entries, entries_from, live_at}
 use Rattle.scan.proofs.list.enter.Given as goal
 
 abbrev pub invariant-loop-k : goal.invariant-loop-k

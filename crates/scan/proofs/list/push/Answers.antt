@@ -1,6 +1,5 @@
 -- `push`: the entry is stored if there is room, and counted in any case.
 use mathlib.Core.Path.{refl, sym}
-use borrow.Author.Rules.{rules}
 use borrow.Author.Tests.{lt-ltb}
 use Rattle.whole.specs.Append.{put_next, put_all}
 use Rattle.whole.specs.AppendLaws.{all-full}

@@ -2,7 +2,6 @@
 use Prim.Native.Nat.{◌-◌}
 use native.Mathlib.Nat.{sub-zero}
 use native.Mathlib.Omega.{arith}
-use borrow.Author.Rules.{rules}
 use Rattle.whole.specs.Kind.{rows_from}
 use Rattle.whole.specs.Sum.{keep}
 use Rattle.scan.specs.Scan.{entries, entries_from, live_at}
@@ -13,7 +12,7 @@ use Rattle.scan.proofs.nodes.arrive.Goals as goal
 pub stay-s-requires : goal.stay-s-requires
 stay-s-requires c =
     let p = c.requires in
-    record { n_in_bounds = p.0.0; on_grids = p.1.0; grid_point = p.1.1.0; used_in_bounds = (omega arith, omega arith); all = p.1.1.1.1.1 }
+    record { n_in_bounds = p.n_in_bounds.0; on_grids = p.on_grids; grid_point = p.grid_point; used_in_bounds = (omega arith, omega arith); all = p.all }
 
 pub returns-then-sorted : goal.returns-then-sorted
 returns-then-sorted c =

@@ -1,5 +1,4 @@
 -- `node_of`, by its test.
-use borrow.Author.Rules.{rules}
 use Rattle.scan.proofs.nodes.node_of.Goals as goal
 
 pub returns-then-below : goal.returns-then-below

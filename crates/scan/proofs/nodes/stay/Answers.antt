@@ -1,12 +1,12 @@
 -- `stay` is the pass that keeps what is live, made in place, and adds it up (Walking).
 use mathlib.Core.Path.{◌≡◌, ap, sym, ◌∙◌}
 use mathlib.Core.Bool.{false}
-use Prim.Native.Nat.{◌-◌, ◌<◌, ◌≤◌}
+use Prim.Native.Nat.{◌<◌, ◌≤◌}
 use native.Mathlib.Omega.{arith}
 use lib.IntN.{nat_abs}
 use mir.Syntax.{w32}
 use mir.Val.{SFits}
-use borrow.Author.Rules.{rules, sfits_of}
+use borrow.Author.Rules.{sfits_of}
 use Rattle.geom.specs.declared.Segment.{Segment}
 use Rattle.geom.specs.Plane.{Side, subject, clip}
 use Rattle.edges.specs.Below.{live, height_at}
@@ -15,7 +15,7 @@ use Rattle.scan.specs.declared.sums.Sums.{Sums}
 use Rattle.scan.specs.Scan.{entries, named, EntryOf, live_at, amount}
 use Rattle.scan.proofs.Entries.{all_row}
 use Rattle.scan.proofs.Adding.{small_entry}
-use Rattle.scan.proofs.Walking.{Walking, walking_start, walking_yes, walking_no, walked}
+use Rattle.scan.proofs.Walking.{walking_start, walking_yes, walking_no, walked}
 use Rattle.scan.proofs.nodes.stay.Goals as goal
 use Rattle.scan.proofs.nodes.stay.Goals.{After-entry_at-t, After-is_live, After-named-v}
 
@@ -30,8 +30,8 @@ in-subject c = sfits_of {w = w32} c.named-v.type_inv.1.1.1.1.0.1.1.0.1
 in-clip : (c : After-named-v) → SFits w32 c.named-v.result.clip.0
 in-clip c = sfits_of {w = w32} c.named-v.type_inv.1.1.1.1.1.0.1.1.0.1
 
-small : (c : tie.After-named invariant-loop decreases-loop) (side : Side) → nat_abs (amount side c.before.entry_at.result) ≤ 2147483648
-small c = small_entry (entry c.before) c.named.ensures (in-subject c) (in-clip c)
+small : (c : After-named-v) (side : Side) → nat_abs (amount side c.entry_at-t.result) ≤ 2147483648
+small c = small_entry (entry c.before) c.named-v.ensures (in-subject c) (in-clip c)
 
 tested : (c : After-is_live) → c.is_live.result ≡ live_at c.args.work.now c.args.p c.entry_at-t.result
 tested c =

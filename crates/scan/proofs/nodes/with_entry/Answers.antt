@@ -1,7 +1,6 @@
 -- `with_entry`: the sums with the entry, and whether it passes through too.
 use mathlib.Core.Path.{ap}
 use mathlib.Core.Bool.{◌||◌}
-use borrow.Author.Rules.{rules}
 use Rattle.scan.specs.declared.sums.Sums.{Sums}
 use Rattle.scan.proofs.nodes.with_entry.Goals as goal
 

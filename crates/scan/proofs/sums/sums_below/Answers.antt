@@ -15,7 +15,7 @@ use Rattle.edges.specs.Below.{below}
 use Rattle.scan.specs.declared.list.Entry.{Entry}
 use Rattle.scan.specs.Scan.{entries, named, EntryOf, amount}
 use Rattle.scan.proofs.Entries.{all_row}
-use Rattle.scan.proofs.Adding.{Adding, adding_from, adding_step, sums-done, small_entry}
+use Rattle.scan.proofs.Adding.{adding_from, adding_step, sums-done, small_entry}
 use Rattle.scan.proofs.sums.sums_below.Goals as goal
 use Rattle.scan.proofs.sums.sums_below.Goals.{After-entry_at-t, After-named-v}
 
@@ -29,8 +29,8 @@ in-subject c = sfits_of {w = w32} c.named-v.type_inv.1.1.1.1.0.1.1.0.1
 in-clip : (c : After-named-v) → SFits w32 c.named-v.result.clip.0
 in-clip c = sfits_of {w = w32} c.named-v.type_inv.1.1.1.1.1.0.1.1.0.1
 
-small : (c : tie.After-named invariant-loop decreases-loop) (side : Side) → nat_abs (amount side c.before.entry_at.result) ≤ 2147483648
-small c = small_entry (entry c.before) c.named.ensures (in-subject c) (in-clip c)
+small : (c : After-named-v) (side : Side) → nat_abs (amount side c.entry_at-t.result) ≤ 2147483648
+small c = small_entry (entry c.before) c.named-v.ensures (in-subject c) (in-clip c)
 
 pub loop-k-init : goal.loop-k-init
 loop-k-init c = (c.requires.used_in_bounds.2, adding_from c.args.used c.requires.used_in_bounds.2 c.requires.reached)
