@@ -1,7 +1,7 @@
 -- The pass over the entries in use at a node: those that are live stay, in place, and are added up on the way (Walking). And what that tells of an edge
 -- that starts at the node (`reached`): an entry that is live there and does not pass through the point is below the edge just if it passes under the point.
 use mathlib.Core.Path.{◌≡◌, refl, sym, ap, ap₂, subst, ◌∙◌}
-use mathlib.Core.Bool.{Bool, true, false, cond, not, ◌||◌}
+use mathlib.Core.Bool.{Bool, true, false, cond, ◌||◌}
 use mathlib.Core.List.{List, [], ◌∷◌, ◌++◌}
 use Prim.Native.Nat.{ℕ, ◌+◌, ◌*◌, ◌-◌, ◌≤◌, ◌<◌}
 use native.Mathlib.Nat.{sub-zero}
@@ -18,7 +18,7 @@ use Rattle.geom.specs.declared.Point.{Point}
 use Rattle.geom.specs.declared.Segment.{Segment}
 use Rattle.geom.specs.Plane.{Side, subject, clip}
 use Rattle.edges.specs.declared.Height.{Height}
-use Rattle.edges.specs.Below.{live, below, height_at}
+use Rattle.edges.specs.Below.{below, height_at}
 use Rattle.edges.proofs.Under.{passing}
 use Rattle.scan.specs.declared.list.Entry.{Entry}
 use Rattle.scan.specs.declared.nodes.Below.{Below}
