@@ -1,7 +1,6 @@
 -- `pairs::both_have_length` meets its contract: both tests are the definition's, negated.
 use mathlib.Core.Path.{ap}
 use mathlib.Core.Bool.{not}
-use borrow.Author.Rules.{rules}
 use Rattle.pairs.proofs.both_have_length.Goals as goal
 
 pub returns-then-same_point : goal.returns-then-same_point

@@ -1,5 +1,4 @@
 -- `pairs::both_on_grid` meets its contract: both tests are the definition's.
-use borrow.Author.Rules.{rules}
 use Rattle.pairs.proofs.both_on_grid.Goals as goal
 
 pub returns-then-segment_on_grid : goal.returns-then-segment_on_grid
