@@ -1,6 +1,5 @@
 -- `crossings::by_sides` meets its contract: with no end on the other's line, equal sides in a couple make nothing, and otherwise it is a middle crossing.
 use mathlib.Core.Path.{sym, ◌∙◌}
-use borrow.Author.Rules.{rules}
 use Rattle.cross.specs.Sides.{clear-other, clear-target, clear-parted, clear-middle}
 use Rattle.crossings.proofs.by_sides.Goals as goal
 

@@ -1,6 +1,5 @@
 -- `crossings::crossing` meets its contract: both ends of other on one side of target's line make nothing, and the rest is by the four sides.
 use mathlib.Core.Path.{sym, ◌∙◌}
-use borrow.Author.Rules.{rules}
 use Rattle.cross.specs.Cross.{crossing}
 use Rattle.cross.specs.Sides.{one_side}
 use Rattle.crossings.proofs.crossing.Goals as goal

@@ -1,7 +1,6 @@
 -- `crossings::on_a_line` meets its contract: each test is the definition's, in its order; where none holds, it is the last end.
 use mathlib.Core.Path.{◌≡◌}
 use Prim.Native.Nat.{ℕ}
-use borrow.Author.Rules.{rules}
 use borrow.Author.Tests.{eq-eqb, ne_eqb, lt-ltb, le-ltb}
 use Rattle.cross.specs.Cross.{cross_by}
 use Rattle.cross.specs.Sides.{ends, by_ends, last_end}

@@ -3,7 +3,6 @@ use mathlib.Core.Path.{◌≡◌, ◌∙◌}
 use mir.Facts.{to_z-of_z}
 use mir.Syntax.{w64}
 use mir.Val.{to_z, of_z}
-use borrow.Author.Rules.{rules}
 use Rattle.whole.specs.Fit.{held, widen}
 use Rattle.geom.specs.Bounds.{grid-fits, gap_fits}
 use Rattle.gaps.proofs.gap.Goals as goal

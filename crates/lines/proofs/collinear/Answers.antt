@@ -1,7 +1,6 @@
 -- `lines::collinear` meets its contract: each of the four tests sets its bit, and the four bits fit a byte.
 use Prim.Native.Nat.{◌+◌, ◌≤◌}
 use native.Mathlib.Omega.{arith}
-use borrow.Author.Rules.{rules}
 use Rattle.cross.specs.Cross.{collinear_mask}
 use Rattle.lines.proofs.Bits.{as_bit, at_most}
 use Rattle.lines.proofs.collinear.Goals as goal

@@ -1,5 +1,4 @@
 -- `lines::inner` meets its contract: either test is the definition's.
-use borrow.Author.Rules.{rules}
 use Rattle.cross.specs.Cross.{inner}
 use Rattle.lines.proofs.inner.Goals as goal
 

@@ -1,6 +1,5 @@
 -- `middles::cross_point` meets its contract: a test of two coordinates says which of the three ways it is.
 use mathlib.Core.Path.{sym, ◌∙◌}
-use borrow.Author.Rules.{rules}
 use Rattle.geom.specs.Tests.{when_true, when_false, same?}
 use Rattle.middles.proofs.cross_point.Goals as goal
 

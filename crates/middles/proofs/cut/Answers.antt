@@ -1,6 +1,6 @@
 -- `middles::cut` meets its contract: the divisor is not zero, and a quotient is no larger than what is divided.
 use mir.Facts.{to_z-of_z}
-use Rattle.middles.proofs.Steps.{bits_some, quot_fits}
+use Rattle.middles.proofs.Steps.{quot_fits}
 use Rattle.middles.proofs.cut.Goals as goal
 
 pub returns : goal.returns

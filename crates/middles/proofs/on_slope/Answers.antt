@@ -4,7 +4,7 @@ use lib.IntN.{ℤ, ◌+ℤ◌, ◌-ℤ◌, ◌*ℤ◌}
 use mir.Facts.{to_z-of_z}
 use mir.Syntax.{w64}
 use mir.Val.{to_z, of_z}
-use borrow.Author.Rules.{rules, sfits_of}
+use borrow.Author.Rules.{sfits_of}
 use Rattle.whole.specs.Fit.{fits-abs}
 use Rattle.geom.specs.declared.Coord.{Coord}
 use Rattle.geom.specs.declared.Point.{Point}

@@ -5,7 +5,7 @@ use lib.Signed.{quot_z}
 use mir.Facts.{to_z-of_z}
 use mir.Syntax.{w64}
 use mir.Val.{to_z, of_z}
-use borrow.Author.Rules.{rules, sfits_of}
+use borrow.Author.Rules.{sfits_of}
 use Rattle.geom.specs.Plane.{against}
 use Rattle.middles.proofs.reduced.Goals as goal
 use Rattle.middles.proofs.reduced.Goals.{After-cut, After-gap-d, After-turn-n}

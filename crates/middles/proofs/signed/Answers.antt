@@ -2,7 +2,6 @@
 use lib.IntN.{pos}
 use mir.Facts.{to_z-of_z, to_z_pos}
 use mir.Syntax.{w64}
-use borrow.Author.Rules.{rules}
 use Rattle.middles.proofs.Steps.{minus_fits, signed-under, signed-over}
 use Rattle.middles.proofs.signed.Goals as goal
 

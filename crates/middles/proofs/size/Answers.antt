@@ -1,6 +1,5 @@
 -- `middles::size` meets its contract: below 2^63 the negated number fits, and it has the same size.
 use mir.Facts.{to_z-of_z}
-use borrow.Author.Rules.{rules}
 use Rattle.middles.proofs.Steps.{minus_abs, minus_fits, minus_size, own_size}
 use Rattle.middles.proofs.size.Goals as goal
 

@@ -1,5 +1,4 @@
 -- `misses::one_side` meets its contract: both sides are the definition's, and they are equal and off the line.
-use borrow.Author.Rules.{rules}
 use borrow.Author.Tests.{eq-eqb, ne_eqb}
 use Rattle.cross.specs.Sides.{beside}
 use Rattle.misses.proofs.one_side.Goals as goal

@@ -4,7 +4,6 @@ use mathlib.Core.Path.{sym, ap, ◌∙◌}
 use Prim.Native.Nat.{ℕ, ◌+◌, ◌*◌, ◌/◌, ◌^◌, ◌<◌}
 use native.Mathlib.Nat.{mul-div-mul_right}
 use native.Mathlib.Omega.{arith}
-use borrow.Author.Rules.{rules}
 use Rattle.limbs.proofs.Words.{lower}
 use Rattle.quotients.proofs.Long.{Raises, raises}
 use Rattle.shares.proofs.Halves.{half_added, room, first, high, Parts, parts, factor_short, Raised, raised}

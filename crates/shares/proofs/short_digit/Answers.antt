@@ -1,6 +1,5 @@
 -- `shares::short_digit` meets its contract: 1 is taken off the guess exactly where it wants more than there is.
 use native.Mathlib.Omega.{arith}
-use borrow.Author.Rules.{rules}
 use Rattle.shares.proofs.Short.{Short, short, counted}
 use Rattle.shares.proofs.short_digit.Goals as goal
 use Rattle.shares.proofs.short_digit.Goals.{Start}

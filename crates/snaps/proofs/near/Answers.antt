@@ -1,6 +1,5 @@
 -- `snaps::near` meets its contract: one test for each end.
 use mathlib.Core.Path.{sym}
-use borrow.Author.Rules.{rules}
 use Rattle.snaps.proofs.Snap.{first-near, second-near}
 use Rattle.snaps.proofs.near.Goals as goal
 

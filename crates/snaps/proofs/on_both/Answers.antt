@@ -1,5 +1,4 @@
 -- `snaps::on_both` meets its contract: both tests are the definition's.
-use borrow.Author.Rules.{rules}
 use Rattle.cross.specs.Cross.{on_both}
 use Rattle.snaps.proofs.on_both.Goals as goal
 

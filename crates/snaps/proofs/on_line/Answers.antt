@@ -1,7 +1,6 @@
 -- `snaps::on_line` meets its contract: a point is on a line where its side is 1.
 use mathlib.Core.Path.{ap, ◌∙◌}
 use lib.Dec.{eqb}
-use borrow.Author.Rules.{rules}
 use Rattle.cross.specs.Sides.{side_on_line}
 use Rattle.snaps.proofs.on_line.Goals as goal
 

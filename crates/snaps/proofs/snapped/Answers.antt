@@ -1,5 +1,4 @@
 -- `snaps::snapped` meets its contract: both tests are the definition's.
-use borrow.Author.Rules.{rules}
 use Rattle.cross.specs.Cross.{snapped}
 use Rattle.snaps.proofs.snapped.Goals as goal
 

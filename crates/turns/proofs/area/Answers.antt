@@ -3,7 +3,6 @@ use mathlib.Core.Path.{◌≡◌, ◌∙◌}
 use lib.IntN.{◌-ℤ◌}
 use mir.Syntax.{w64}
 use mir.Val.{to_z, of_z}
-use borrow.Author.Rules.{rules}
 use Rattle.whole.specs.Fit.{held}
 use Rattle.geom.specs.Bounds.{gap_fits, area_fits}
 use Rattle.turns.proofs.area.Goals as goal

@@ -2,7 +2,6 @@
 use mathlib.Core.Path.{◌≡◌}
 use mir.Syntax.{w64}
 use mir.Val.{to_z, of_z}
-use borrow.Author.Rules.{rules}
 use Rattle.whole.specs.Fit.{held}
 use Rattle.geom.specs.Plane.{turn, side_of}
 use Rattle.geom.specs.Bounds.{turn-fits}
