@@ -13,7 +13,6 @@ use Rattle.geom.specs.declared.Point.{Point}
 use Rattle.geom.specs.declared.Segment.{Segment}
 use Rattle.geom.specs.Plane.{Before}
 use Rattle.geom.specs.Rows.{segments}
-use Rattle.edges.specs.Below.{live}
 use Rattle.scan.specs.declared.list.Entry.{Entry}
 use Rattle.scan.specs.declared.nodes.Node.{Node}
 use Rattle.scan.specs.Scan.{segment_at, entries_from, live_at, stays, arrivals, Known, Reached, Holds}

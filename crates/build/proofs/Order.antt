@@ -1,5 +1,5 @@
 -- A list in order: each segment starts at or after those that stand before it. What is live at a later point was live at an earlier one, once it had begun.
-use mathlib.Core.Path.{◌≡◌, refl, sym, ap, subst}
+use mathlib.Core.Path.{◌≡◌, refl, sym, ap, subst, ◌∙◌}
 use mathlib.Core.Bool.{Bool, true, false, not, ◌&&◌}
 use mathlib.Core.List.{List}
 use mathlib.Core.Logic.{⊎_elim}
@@ -99,14 +99,19 @@ module _ (work : List ℤ) where
           let k = i + d in
           rw e (upto-trans (chain i d (omega arith)) (upto (segment_at work k).a (segment_at work (k + 1)).a (neighbour 0 n o k (omega arith) (omega arith))))
 
+  first-pair : (i k : ℕ) → ordered (rows_from segments work i (suc (suc k))) ≡ (not (before (segment_at work (suc i)).a (segment_at work i).a) && ordered (rows_from segments work (suc i) (suc k)))
+  unfolding ordered rows_from
+  first-pair i k = refl
+
   -- one segment after the other, in a loop from 1 to n
   pub order-step : (n i : ℕ) → 1 ≤ i → i < n → ordered (rows_from segments work (i - 1) (n - (i - 1))) ≡ (not (before (segment_at work i).a (segment_at work (i - 1)).a) && ordered (rows_from segments work i (n - i)))
-  unfolding ordered rows_from
   order-step n i h q =
       let a : n - (i - 1) ≡ suc (suc (n - suc i)) = omega arith in
       let b : suc (i - 1) ≡ i = omega arith in
       let c : n - i ≡ suc (n - suc i) = omega arith in
-      rw (a, b, c)
+      rw (a, c)
+      (first-pair (i - 1) (n - suc i)
+      ∙ ap (λ (j : ℕ). not (before (segment_at work j).a (segment_at work (i - 1)).a) && ordered (rows_from segments work j (suc (n - suc i)))) b)
 
   pub order-done : (n i : ℕ) → 1 ≤ i → n ≤ i → ordered (rows_from segments work (i - 1) (n - (i - 1))) ≡ true
   unfolding ordered rows_from

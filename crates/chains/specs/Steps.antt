@@ -3,7 +3,7 @@ use Rattle.std.specs.Prelude.{Bool, cond, List, [], ◌∷◌, map, ℕ, zero, s
 use Rattle.whole.specs.Kind.{row_at, rows_from}
 use Rattle.geom.specs.declared.Point.{Point}
 use Rattle.geom.specs.declared.Segment.{Segment}
-use Rattle.geom.specs.Plane.{point, sameZ}
+use Rattle.geom.specs.Plane.{sameZ}
 use Rattle.directions.specs.Forward.{forward}
 use Rattle.split.specs.Marks.{marks}
 

@@ -1,7 +1,7 @@
 -- What an input without a fault has: the table's sentences, none of which holds, said the other way round.
 use Rattle.std.specs.Prelude.{◌≡◌, false, List, ℕ, ◌*◌, ◌^◌, ◌<◌, ◌≤◌, ℤ, pos, neg_ℤ, length}
 use Rattle.std.proofs.Common.{inl, inr, arith}
-use Rattle.std.proofs.lemmas.Bool.{not_false}
+use Rattle.std.proofs.lemmas.Bool.{not-false}
 use Rattle.whole.specs.Kind.{rows_from}
 use Rattle.whole.specs.Sum.{All, all_map, all_by}
 use Rattle.whole.specs.Test.{of_true}
@@ -69,14 +69,14 @@ all_not : {P : Segment → Type 0} (L : List Segment) → (Has P L → ⊥) → 
 all_not L f = all_by L (λ v i p. f (v, i, p))
 
 on_grid_lem : (v : Segment) → (CoordinateOutside v → ⊥) → GridSegment v
-on_grid_lem v f = when_true (grid_segment? v) (not_false _ (fails (off? v) f))
+on_grid_lem v f = when_true (grid_segment? v) (not-false _ (fails (off? v) f))
 
 -- what no segment off the grid says of each
 pub all_on_grid : (L : List Segment) → some is_off L ≡ false → All GridSegment L
 all_on_grid L e = all_map on_grid_lem (all_not L (when_false (has? off? L) e))
 
 is_balanced : (L : List Segment) → (OpenOutline L → ⊥) → (d : Side) → Balanced (count d) L
-is_balanced L f d = (balanced_test (count d) L).0 (of_true (not_false (balanced (count d) L) (fails (uneven? (count d) L) (λ u. f (d, u)))))
+is_balanced L f d = (balanced_test (count d) L).0 (of_true (not-false (balanced (count d) L) (fails (uneven? (count d) L) (λ u. f (d, u)))))
 
 pub accepted : (input : List ℤ) (s : Settings) (work masks : ℕ) → fault_of input s work masks ≡ Sound → Accepted input s work masks
 accepted input s work masks e =

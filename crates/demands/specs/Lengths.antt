@@ -94,4 +94,4 @@ pub looks_fit : {room work left : ℕ} {L K : List Segment} {Ls : List (List Seg
 looks_fit empty a h = h
 looks_fit (done n e) a h = h
 looks_fit (again n c) (rests e) h = absurd (n e)
-looks_fit {L = L} (again n c) (goes_on m p a) h = looks_fit c a (next_fits L p.pieces)
+looks_fit {L = L} (again n c) (goes_on {left = left} m p a) h = looks_fit {left = left} c a (next_fits L p.pieces)

@@ -38,6 +38,7 @@ none_and a b c e = rw e (ring (a ∷ c ∷ []) (search reads depth 20 fits 5000)
 
 pub only : (w : Segment → ℤ) (f : Segment → Bool) (e : Segment) {L : List Segment} → f e ≡ true → All (λ t. Apart e t → f t ≡ false) L → In e L → Pairs Apart L → Over w f L ≡ w e
 unfolding Over Sum
+only w f e it none i p = elim i [ ]
 only w f e it (also n ns) (here {L = L}) (pair h k) = ap (λ c. w e *ℤ ind c +ℤ Over w f L) it ∙ one_and (w e) (Over w f L) (over_none w (all_map (λ t m. m.0 m.1) (all_both ns h)))
 only w f e it (also n ns) (there {t = t} {L = L} i) (pair h k) = ap (λ c. w t *ℤ ind c +ℤ Over w f L) (n (apart_sym (all_in i h))) ∙ none_and (w t) (Over w f L) (w e) (only w f e it ns i k)
 

@@ -1,0 +1,18 @@
+-- `apply::in_order` meets its contract. The loop's invariant: the marks from i on answer for all.
+use mathlib.Core.Path.{◌≡◌, sym, ap, ◌∙◌}
+use Prim.Native.Nat.{◌-◌, ◌≤◌}
+use native.Mathlib.Nat.{sub-zero}
+use native.Mathlib.Omega.{arith}
+use borrow.Author.Rules.{rules}
+use Rattle.whole.specs.Kind.{rows_from}
+use Rattle.whole.specs.KindLaws.{rows_step, rows-done}
+use Rattle.split.specs.Marks.{marks as mark_rows}
+use Rattle.apply.specs.Answer.{names, in_order}
+use Rattle.apply.proofs.Ordered.{not_named, not_led, ordered-later, none_unordered}
+use Rattle.apply.proofs.in_order.Given as goal
+
+abbrev pub invariant-loop-i : goal.invariant-loop-i
+invariant-loop-i l = (l.i ≤ l.count) × (in_order l.n (rows_from mark_rows l.marks l.i (l.count - l.i)) ≡ in_order l.n (rows_from mark_rows l.marks 0 l.count))
+
+abbrev pub decreases-loop-i : goal.decreases-loop-i
+decreases-loop-i l = l.count - l.i

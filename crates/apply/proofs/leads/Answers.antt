@@ -1,0 +1,26 @@
+-- `apply::leads` meets its contract: the mark after it is the first of the rows that are left, if there is one.
+use mathlib.Core.Path.{sym, ap, ap₂, ◌∙◌}
+use Prim.Native.Nat.{◌+◌}
+use native.Mathlib.Omega.{arith}
+use Rattle.whole.specs.Kind.{row_at}
+use Rattle.whole.specs.KindLaws.{rows_step, rows-done}
+use Rattle.split.specs.Marks.{marks}
+use Rattle.apply.specs.Answer.{leads, earlier}
+use borrow.Author.Rules.{rules}
+use Rattle.apply.proofs.leads.Goals as goal
+
+pub returns-then-i-count : goal.returns-then-i-count
+unfolding leads
+returns-then-i-count c =
+    let x = c.args in
+    let zs = x.marks.now in
+    c.earlier.ensures
+    ∙ ap₂ earlier c.read.ensures c.read-then-i-count.ensures
+    ∙ sym (ap (leads (row_at marks zs x.i)) (rows_step marks zs x.count (x.i + 1) (omega arith)))
+
+pub returns : goal.returns
+unfolding leads
+returns c =
+    let x = c.args in
+    let zs = x.marks.now in
+    sym (ap (leads (row_at marks zs x.i)) (rows-done marks zs x.count (x.i + 1) (omega arith)))
