@@ -1,4 +1,4 @@
-//! Links the single parts, which `rt staticlib cabi_parts` makes, beside the library; says whether the oracle was built with the crate's files.
+//! Links the single parts, which `./build-library cabi_parts` makes, beside the library; says whether the oracle was built with the crate's files.
 
 use std::env;
 use std::path::{Path, PathBuf};
@@ -17,7 +17,7 @@ fn main() {
     println!("cargo:rerun-if-changed={}", library.display());
     if !library.is_file() {
         eprintln!(
-            "{} is not there: make it by `rt staticlib cabi_parts` at the root of the repository.",
+            "{} is not there: make it by `./build-library cabi_parts` at the root of the repository.",
             library.display()
         );
         std::process::exit(1);

@@ -1,4 +1,4 @@
-/* The proved overlay for C: link target/staticlib/libcabi.a, which `rt staticlib cabi` makes.
+/* The proved overlay for C: link target/staticlib/libcabi.a, which `./build-library cabi` makes.
    A list goes over as a pointer and its length. Every call is answered, and nothing outside the lists is read or written. */
 #ifndef CIWETANOS_H
 #define CIWETANOS_H

@@ -1,4 +1,4 @@
-//! Finds the proved library, which `rt staticlib cabi` makes: in the repository's target folder, or where CIWETANOS_LIB says.
+//! Finds the proved library, which `./build-library cabi` makes: in the repository's target folder, or where CIWETANOS_LIB says.
 
 use std::env;
 use std::path::{Path, PathBuf};
@@ -13,7 +13,7 @@ fn main() {
     println!("cargo:rerun-if-changed={}", library.display());
     if !library.is_file() {
         eprintln!("{} is not there.", library.display());
-        eprintln!("Make it by `rt staticlib cabi` at the root of the repository, or say by CIWETANOS_LIB in which folder it is.");
+        eprintln!("Make it by `./build-library cabi` at the root of the repository, or say by CIWETANOS_LIB in which folder it is.");
         std::process::exit(1);
     }
     println!("cargo:rustc-link-search=native={}", folder.display());

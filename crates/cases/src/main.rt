@@ -1,5 +1,7 @@
 #![tactic(auto)]
 // The cases at the edges of the rules (stdin), worked out by hand: docs/CASES.md.
-fn main() {
-    stored::run_all();
+use std::io;
+
+fn main(rt: HostRuntime) -> io::Result<()> {
+    stored::run_all(&rt)
 }

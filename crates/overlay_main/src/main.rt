@@ -6,12 +6,13 @@ ghost use Rattle.ending.specs.Lent.{lent};
 ghost use Rattle.overlay_main.specs.Reply.{reply as reply_of};
 
 use overlay::answer::Answer;
+use std::io;
 use wire::Decoded;
 
-fn main() {
+fn main(rt: HostRuntime) -> io::Result<()> {
     // Room for 2,048 segments and more, so that an extra byte is noticed.
-    let mut bytes = io::large_buffer();
-    let n = io::read_full(libc::STDIN_FILENO, &mut bytes);
+    let mut bytes = [0u8; 65536];
+    let n = intake::read_full(&mut rt.reader(), &mut bytes)?;
     let mut input = [0i32; 12288];
     let mut work = [0i32; 12288];
     let mut marks = [0i32; 12288];
@@ -27,7 +28,7 @@ fn main() {
         &mut masks,
         &mut out,
     );
-    io::write_all(libc::STDOUT_FILENO, &out[..k]);
+    rt.write_all(&out[..k])
 }
 
 // What is written for what was read: how many bytes, which then stand at the front of `out`.

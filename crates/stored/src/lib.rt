@@ -5,6 +5,7 @@ ghost use Rattle.std.specs.Prelude.{◌≤◌};
 
 use checks::Settings;
 use report::Report;
+use std::io;
 
 mod read;
 
@@ -45,10 +46,10 @@ struct Asked {
 }
 
 // Reads a text of stored cases from standard input, runs them, and writes what comes of it. The zeros behind the text are white space.
-pub fn run_all() {
+pub fn run_all<R: Input + Print>(rt: &R) -> io::Result<()> {
     let mut text = [0u8; 262144];
-    io::read_full(libc::STDIN_FILENO, &mut text);
-    print(replay(&text));
+    intake::read_full(&mut rt.reader(), &mut text)?;
+    print(rt, replay(&text))
 }
 
 fn replay(text: &[u8]) -> Tally {
@@ -342,19 +343,20 @@ fn rest_u8(list: &[u8], from: usize, z: u8) -> bool {
 }
 
 // How many cases there are and how many are equal, in a line; and what is wrong, if anything is.
-fn print(t: Tally) {
-    tell(t.cases, b" cases, ");
-    tell(t.equal, b" equal\n");
+fn print(rt: &impl Print, t: Tally) -> io::Result<()> {
+    tell(rt, t.cases, b" cases, ")?;
+    tell(rt, t.equal, b" equal\n")?;
     if t.first > 0 {
-        io::write_all(libc::STDOUT_FILENO, b"the first that differs: ");
-        tell(t.first, b"\n");
+        rt.write_all(b"the first that differs: ")?;
+        tell(rt, t.first, b"\n")?;
     }
     if !t.whole {
-        io::write_all(libc::STDOUT_FILENO, b"the text goes on behind them\n");
+        rt.write_all(b"the text goes on behind them\n")?;
     }
+    Ok(())
 }
 
-fn tell(n: usize, what: &[u8]) {
-    io::print_decimal(libc::STDOUT_FILENO, n as u64);
-    io::write_all(libc::STDOUT_FILENO, what);
+fn tell(rt: &impl Print, n: usize, what: &[u8]) -> io::Result<()> {
+    print!(rt; "{n}")?;
+    rt.write_all(what)
 }

@@ -4,7 +4,7 @@
 //! where they cross, each with a byte that says what lies on its two sides and whether the rule asked for keeps it. A list that
 //! cannot be settled is refused with a reason that says what to mend.
 //!
-//! The work is done by the proved library that `rt staticlib cabi` makes; this crate only lends it lists and puts types around its numbers.
+//! The work is done by the proved library that `./build-library cabi` makes; this crate only lends it lists and puts types around its numbers.
 //!
 //! ```
 //! use ciwetanos::{outline, overlay, FillRule, OverlayRule, Settings};

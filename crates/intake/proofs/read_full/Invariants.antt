@@ -1,0 +1,13 @@
+-- What was read so far stands at the front of the list.
+use Rattle.std.proofs.Common.{length, take, ◌-◌, ◌≤◌, ◌≡◌}
+use Rattle.std.specs.Io.KnownBytes.{Consumes}
+use Rattle.intake.proofs.read_full.Given as goal
+
+abbrev pub invariant-loop-done : goal.invariant-loop-done
+invariant-loop-done g l =
+    (length l.list ≡ length l.initial.list)
+    × (l.done ≤ length l.list)
+    × Consumes (g.R.Read.remaining l.initial.from) (g.R.Read.remaining l.from) (take l.done l.list)
+
+abbrev pub decreases-loop-done : goal.decreases-loop-done
+decreases-loop-done g l = length l.initial.list - l.done
