@@ -2,7 +2,6 @@
 use native.Mathlib.Omega.{arith}
 use Rattle.text.specs.PutLaws.{put_more}
 use Rattle.text.specs.Text.{head}
-use borrow.Author.Rules.{rules}
 use Rattle.text.proofs.head.Goals as goal
 
 pub returns : goal.returns

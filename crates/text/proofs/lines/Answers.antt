@@ -1,9 +1,9 @@
 -- The lines still to come, put from the next place on, make up what is promised. A line has at most 153 bytes.
 use mathlib.Core.Path.{◌≡◌}
-use Prim.Native.Nat.{◌+◌, ◌*◌, ◌-◌, ◌<◌, ◌≤◌}
+use Prim.Native.Nat.{◌-◌, ◌<◌}
 use native.Mathlib.Nat.{sub-zero}
 use native.Mathlib.Omega.{arith}
-use Rattle.text.specs.PutLaws.{Coming, coming-all, coming-step, coming-none}
+use Rattle.text.specs.PutLaws.{coming-all, coming-step, coming-none}
 use Rattle.text.specs.Text.{lines_from}
 use Rattle.text.specs.TextLaws.{lines_first}
 use Rattle.text.proofs.lines.Goals as goal

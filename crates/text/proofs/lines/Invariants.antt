@@ -1,11 +1,7 @@
 -- The lines still to come, put from the next place on, make up what is promised. A line has at most 153 bytes.
-use mathlib.Core.Path.{◌≡◌}
-use Prim.Native.Nat.{◌+◌, ◌*◌, ◌-◌, ◌<◌, ◌≤◌}
-use native.Mathlib.Nat.{sub-zero}
-use native.Mathlib.Omega.{arith}
-use Rattle.text.specs.PutLaws.{Coming, coming-all, coming-step, coming-none}
+use Prim.Native.Nat.{◌+◌, ◌*◌, ◌-◌, ◌≤◌}
+use Rattle.text.specs.PutLaws.{Coming}
 use Rattle.text.specs.Text.{lines_from}
-use Rattle.text.specs.TextLaws.{lines_first}
 use Rattle.text.proofs.lines.Given as goal
 
 abbrev pub invariant-loop-i : goal.invariant-loop-i

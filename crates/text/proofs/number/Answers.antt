@@ -8,7 +8,6 @@ use mir.Facts.{to_z-of_z}
 use Rattle.text.specs.PutLaws.{put_more, put_as}
 use Rattle.text.specs.Text.{decimal, number}
 use Rattle.text.specs.TextLaws.{number-under, number-over}
-use borrow.Author.Rules.{rules}
 use Rattle.text.proofs.number.Goals as goal
 
 pub returns-then-z-lt0 : goal.returns-then-z-lt0

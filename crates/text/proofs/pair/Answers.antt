@@ -5,7 +5,6 @@ use native.Mathlib.Omega.{arith}
 use mir.Facts.{to_z-of_z}
 use Rattle.text.specs.PutLaws.{put_more, put_as}
 use Rattle.text.specs.Text.{number, spaced}
-use borrow.Author.Rules.{rules}
 use Rattle.text.proofs.pair.Goals as goal
 
 pub returns : goal.returns

@@ -12,7 +12,6 @@ use Rattle.checks.specs.declared.Settings.{Settings}
 use Rattle.wire.specs.declared.Decoded.TheVariants.{Asked, Broken}
 use Rattle.wire.specs.Bytes.{word_at, numbers_from}
 use Rattle.wire.specs.Asked.{is_taken, decoded_as, decoded_list}
-use borrow.Author.Rules.{rules}
 use Rattle.wire.proofs.decode.Goals as goal
 
 broken : (bs : List ℕ) (input : List ℤ) → is_taken bs (length input) ≡ false → (Broken ≡ decoded_as bs (length input)) × (input ≡ decoded_list bs input)

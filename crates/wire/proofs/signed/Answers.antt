@@ -6,7 +6,6 @@ use lib.IntN.{pos, negsuc, ◌+ℤ◌, ◌-ℤ◌}
 use mir.Syntax.{w32}
 use mir.Val.{SFits, to_z, of_z}
 use mir.Facts.{to_z-of_z}
-use borrow.Author.Rules.{rules}
 use borrow.Author.Tests.{lt-ltb, le-ltb}
 use Rattle.whole.specs.Order.{zz, add_is, sub_is, sfits_out}
 use Rattle.wire.specs.Bytes.{signed}
