@@ -6,12 +6,10 @@ use lib.IntN.{pos, negsuc, ◌+ℤ◌, ◌-ℤ◌}
 use mir.Syntax.{w32}
 use mir.Val.{SFits, to_z, of_z}
 use mir.Facts.{to_z-of_z}
-use borrow.Author.Rules.{rules}
 use borrow.Author.Tests.{lt-ltb, le-ltb}
 use Rattle.whole.specs.Order.{zz, add_is, sub_is, sfits_out}
 use Rattle.wire.specs.Bytes.{signed}
-use Rattle.wire.proofs.signed.Statement.{statement}
-use Rattle.wire.proofs.signed.Tie as tie
+use Rattle.wire.proofs.signed.Goals as goal
 
 module _ (u : ℕ) (low : 2 ^ 31 ≤ u) (high : u < 2 ^ 32) where
   half : to_z w32 (u - 2147483648) ≡ pos (u - 2147483648)
@@ -28,21 +26,12 @@ module _ (u : ℕ) (low : 2 ^ 31 ≤ u) (high : u < 2 ^ 32) where
       let e : negsuc 2147483647 +ℤ pos (u - 2147483648) ≡ pos u -ℤ pos (2 ^ 32) = omega (zz, add_is (negsuc 2147483647) (pos (u - 2147483648)), sub_is (pos u) (pos (2 ^ 32))) in
       to_z-of_z high_fits ∙ rw (half, le-ltb u (2 ^ 31) low) e
 
-cast-result : tie.Need-overflow-cast-result
-cast-result c = search rules
+pub overflow_add-result : goal.overflow_add-result
+overflow_add-result c = high_fits c.args.u (omega arith) c.ranges.u.fits
 
-cast-result-2 : tie.Need-overflow-cast-result-2
-cast-result-2 c = search rules
-
-add-result : tie.Need-overflow-add-result
-add-result c = high_fits c.before.args.u (omega arith) c.before.ranges.u.fits
-
-returns : tie.Need-returns
+pub returns-then-u-lt2147483648 : goal.returns-then-u-lt2147483648
 unfolding signed
-returns c = rw (lt-ltb c.before.args.u (2 ^ 31) (omega arith))
+returns-then-u-lt2147483648 c = rw (lt-ltb c.args.u (2 ^ 31) (omega arith))
 
-returns-2 : tie.Need-returns-2
-returns-2 c = high_is c.before.args.u (omega arith) c.before.ranges.u.fits
-
-pub signed-spec : {M : Type 1} → statement M
-signed-spec = tie.close (tie.spec cast-result cast-result-2 add-result returns returns-2)
+pub returns-else-u-lt2147483648 : goal.returns-else-u-lt2147483648
+returns-else-u-lt2147483648 c = high_is c.args.u (omega arith) c.ranges.u.fits

@@ -12,8 +12,7 @@ use mir.Facts.{to_z-of_z}
 use Rattle.whole.specs.Order.{zz, sub_is, split, lt-true, lt-false, mag_in}
 use Rattle.whole.specs.Sign.{abs_is}
 use Rattle.whole.specs.Fit.{widen, diff-fits}
-use Rattle.text.proofs.size.Statement.{statement}
-use Rattle.text.proofs.size.Tie as tie
+use Rattle.text.proofs.size.Goals as goal
 
 module _ (z : ℤ) (h : SFits w32 z) where
   wide : to_z w64 (of_z w64 (to_z w32 (of_z w32 z))) ≡ z
@@ -37,32 +36,29 @@ module _ (z : ℤ) (h : SFits w32 z) where
   own-size : lt_z z (pos 0) ≡ false → T (non_neg z) × Fits w64 (nat_abs z)
   own-size e = (yes_non_neg {z = z} (omega (zz, lt-false z (pos 0) e)), record { fits = omega (arith, near) })
 
-cast-wide : tie.Need-overflow-cast-wide
-cast-wide c = rw (to_z-of_z c.ranges.z) (widen c.ranges.z)
+pub overflow_cast-wide : goal.overflow_cast-wide
+overflow_cast-wide c = rw (to_z-of_z c.ranges.z) (widen c.ranges.z)
 
-sub-result : tie.Need-overflow-sub-result
-sub-result c = rw (wide c.before.args.z c.before.ranges.z) (away-fits c.before.args.z c.before.ranges.z)
+pub overflow_sub-result : goal.overflow_sub-result
+overflow_sub-result c = rw (wide c.args.z c.ranges.z) (away-fits c.args.z c.ranges.z)
 
-cast-result : tie.Need-overflow-cast-result
-cast-result c =
-    let z = c.before.args.z in
-    let h = c.before.ranges.z in
-    rw (away-back z h) (away-size z h (rw (wide z h) at c.if1.true))
+pub overflow_cast-result : goal.overflow_cast-result
+overflow_cast-result c =
+    let z = c.args.z in
+    let h = c.ranges.z in
+    rw (away-back z h) (away-size z h (rw (wide z h) at c.if-wide-lt0.true))
 
-returns : tie.Need-returns
-returns c =
-    let z = c.before.args.z in
-    let h = c.before.ranges.z in
+pub returns-then-wide-lt0 : goal.returns-then-wide-lt0
+returns-then-wide-lt0 c =
+    let z = c.args.z in
+    let h = c.ranges.z in
     rw (away-back z h) (away z h)
 
-cast-result-2 : tie.Need-overflow-cast-result-2
-cast-result-2 c =
-    let z = c.before.args.z in
-    let h = c.before.ranges.z in
-    rw (wide z h) (own-size z h (rw (wide z h) at c.if1.false))
+pub overflow_cast-result-2 : goal.overflow_cast-result-2
+overflow_cast-result-2 c =
+    let z = c.args.z in
+    let h = c.ranges.z in
+    rw (wide z h) (own-size z h (rw (wide z h) at c.if-wide-lt0.false))
 
-returns-2 : tie.Need-returns-2
-returns-2 c = ap nat_abs (wide c.before.args.z c.before.ranges.z)
-
-pub size-spec : {M : Type 1} → statement M
-size-spec = tie.close (tie.spec cast-wide sub-result cast-result returns cast-result-2 returns-2)
+pub returns : goal.returns
+returns c = ap nat_abs (wide c.args.z c.ranges.z)
