@@ -94,8 +94,8 @@ module _ {L : List Segment} {zs : List ℤ} {count : ℕ} (k : Marked L zs count
         rows = rw y (rows-front marks (front marks zs ss) (tidy ms));
       }
 
-  pub never_short : {t : Tidied} → t ≡ tidy_answer zs count → OneOf (1 ∷ []) (tag_of tidied-type t) → ⊥
-  never_short e h = miss (1 ∷ []) 0 tt (subst (λ t. OneOf (1 ∷ []) (tag_of tidied-type t)) (is_distinct e) h)
+  pub never_short : {t : Tidied} → t ≡ tidy_answer zs count → ((k : ℕ) → t ≡ Distinct k → ⊥) → ⊥
+  never_short e h = h _ (is_distinct e)
 
 -- ---- splitting
 
@@ -144,12 +144,12 @@ module _ (xs : List ℤ) (m : ℕ) (kept : Kept xs m) where
           rows = rw (y, h.1 ∙ sym c) (rows-front segments xs (cut L));
         }
 
-    pub is_full : {r : Applied} → r ≡ apply_answer xs m zs n → OneOf (1 ∷ 2 ∷ 3 ∷ []) (tag_of applied-type r) → over ≡ true
-    is_full e h = go over (subst (λ r. OneOf (1 ∷ 2 ∷ 3 ∷ []) (tag_of applied-type r)) (applied e) h)
+    pub is_full : {r : Applied} → r ≡ apply_answer xs m zs n → ((p : ℕ) → r ≡ Pieces p → ⊥) → over ≡ true
+    is_full e h = go over (λ p q. h p (applied e ∙ q))
       where
-        go : (b : Bool) → OneOf (1 ∷ 2 ∷ 3 ∷ []) (tag_of applied-type (cond b Full (Pieces (m + n)))) → b ≡ true
+        go : (b : Bool) → ((p : ℕ) → cond b Full (Pieces (m + n)) ≡ Pieces p → ⊥) → b ≡ true
         go true h = refl
-        go false h = absurd (miss (1 ∷ 2 ∷ 3 ∷ []) 0 tt h)
+        go false h = absurd (h _ refl)
 
   pub refuses_8 : over ≡ true → (f : List Segment → Ran) → split_at (work_room (length xs)) L f ≡ refused WorkFull
   unfolding split_at

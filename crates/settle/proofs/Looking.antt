@@ -54,12 +54,12 @@ module _ (xs : List ℤ) (m : ℕ) (kept : Kept xs m) where
         let rows = le-ltb (length xs) (6 * m) (omega (arith, kept.room)) in
         e ∙ rw (few, rows, clear (all_map (λ v. sound_on) kept.sound), clear (all_map (λ v. sound-long) kept.sound))
 
-    is_full : {r : Looked} → r ≡ look_answer radius xs m zs → OneOf (1 ∷ 2 ∷ 3 ∷ 4 ∷ []) (tag_of the_type r) → full ≡ true
-    is_full e h = go full (subst (λ r. OneOf (1 ∷ 2 ∷ 3 ∷ 4 ∷ []) (tag_of the_type r)) (looked e) h)
+    is_full : {r : Looked} → r ≡ look_answer radius xs m zs → ((k : ℕ) → r ≡ Marks k → ⊥) → full ≡ true
+    is_full e h = go full (λ k q. h k (looked e ∙ q))
       where
-        go : (b : Bool) → OneOf (1 ∷ 2 ∷ 3 ∷ 4 ∷ []) (tag_of the_type (cond b MarksFull (Marks (length ms)))) → b ≡ true
+        go : (b : Bool) → ((k : ℕ) → cond b MarksFull (Marks (length ms)) ≡ Marks k → ⊥) → b ≡ true
         go true h = refl
-        go false h = absurd (miss (1 ∷ 2 ∷ 3 ∷ 4 ∷ []) 0 tt h)
+        go false h = absurd (h _ refl)
 
     -- the look yields so many marks, and there is room for them
     pub record Found (count : ℕ) : Type 0 where
@@ -93,7 +93,7 @@ module _ (xs : List ℤ) (m : ℕ) (kept : Kept xs m) where
         abbrev not_empty : eqb (length L) 0 ≡ false
         not_empty = ne_eqb (length L) 0 (λ e. some (sym (length-rows segments xs 0 m) ∙ e))
 
-        pub refuses_7 : {r : Looked} → r ≡ look_answer radius xs m zs → OneOf (1 ∷ 2 ∷ 3 ∷ 4 ∷ []) (tag_of the_type r) → comes ≡ refused Full
+        pub refuses_7 : {r : Looked} → r ≡ look_answer radius xs m zs → ((k : ℕ) → r ≡ Marks k → ⊥) → comes ≡ refused Full
         unfolding look_at
         refuses_7 e h = rw (not_empty, is_full e h)
 
