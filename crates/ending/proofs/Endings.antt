@@ -62,7 +62,7 @@ module _ (s : Settings) (l : Lent) (k looks : ℕ) (range : InRange s) (kept : K
         go true h = let q : ◌≡◌ {A = ℕ} 0 11 = sym (ap fill.number_of d) ∙ ap (λ o. o.answer) h in absurd (omega arith)
         go false h = rw (f, g, ap (λ o. o.scan) h, ap (λ o. o.masks) h, length-rows segments l.work 0 k)
 
-    pub refuses_11 : OneOf (1 ∷ 2 ∷ 3 ∷ 4 ∷ 5 ∷ 6 ∷ []) (tag_of the_type r) → cleared (lent l.work l.marks sc ms) Crowded ≡ swept s l (settled L looks)
+    pub refuses_11 : (r ≡ Done → ⊥) → cleared (lent l.work l.marks sc ms) Crowded ≡ swept s l (settled L looks)
     unfolding swept
     refuses_11 t = go full (e ∙ filled_is)
       where
@@ -71,4 +71,4 @@ module _ (s : Settings) (l : Lent) (k looks : ℕ) (range : InRange s) (kept : K
             let scans = ap (λ o. length o.scan) h ∙ length-replicate (length l.scan) (pos 0) in
             let bytes = ap (λ o. length o.masks) h ∙ length-replicate (length l.masks) 0 in
             rw (scans, bytes)
-        go false h = absurd (miss (1 ∷ 2 ∷ 3 ∷ 4 ∷ 5 ∷ 6 ∷ []) 0 tt (subst (λ q. OneOf (1 ∷ 2 ∷ 3 ∷ 4 ∷ 5 ∷ 6 ∷ []) (tag_of the_type q)) (fill.one_case r Done (ap (λ o. o.answer) h)) t))
+        go false h = absurd (t (fill.one_case r Done (ap (λ o. o.answer) h)))
