@@ -1,5 +1,4 @@
 -- `checks::check` meets its contract: each test is one of the definition, and what the first one settles is what the others require.
--- ---- what the tests passed say
 use mathlib.Core.Path.{◌≡◌, sym, ◌∙◌}
 use mathlib.Core.Bool.{false, cond}
 use lib.ListN.{length}
@@ -13,6 +12,8 @@ use Rattle.checks.specs.Exactly.{also-said}
 use Rattle.checks.specs.Accepted.{Roomy, roomy_when}
 use Rattle.checks.proofs.check.Goals as goal
 use Rattle.checks.proofs.check.Goals.{After-some_open, Else-bad, Else-short, Else-some_fault, Else-some_fault-2, Else-some_fault-3}
+
+-- ---- what the tests passed say
 
 not_short : (c : Else-short) → is_short c.args.settings.n (length c.args.input.now) c.args.work c.args.masks ≡ false
 not_short c = sym c.short.ensures ∙ c.if-short.false

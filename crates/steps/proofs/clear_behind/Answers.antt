@@ -3,14 +3,6 @@ use borrow.Author.Rules.{rules}
 use Rattle.steps.proofs.Behind.{cleared-behind}
 use Rattle.steps.proofs.clear_behind.Goals as goal
 
--- GONE slice-bounds-clear-i32-start
--- part-clear-i32-start : tie.Need-slice-bounds-clear-i32-start
--- part-clear-i32-start c = search rules
-
--- GONE slice-bounds-clear-i32-end
--- part-clear-i32-end : tie.Need-slice-bounds-clear-i32-end
--- part-clear-i32-end c = search rules
-
 pub returns : goal.returns
 returns c =
     let x = c.args in
