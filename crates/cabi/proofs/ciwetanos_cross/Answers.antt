@@ -1,7 +1,6 @@
 -- `ciwetanos_cross` meets its contract: the length decides, and eight numbers are two segments.
 use borrow.Author.Tests.{eq-eqb, ne_eqb}
 use Rattle.cabi.specs.Crossing.{cross_report}
-use borrow.Author.Rules.{rules}
 use Rattle.cabi.proofs.ciwetanos_cross.Goals as goal
 
 pub returns-then-pair-eq8 : goal.returns-then-pair-eq8

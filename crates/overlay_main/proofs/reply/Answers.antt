@@ -15,7 +15,6 @@ use Rattle.text.specs.PutLaws.{put_as}
 use Rattle.text.specs.Text.{head}
 use Rattle.text.specs.TextLaws.{written-refusal}
 use Rattle.overlay_main.specs.Reply.{text_of, reply}
-use borrow.Author.Rules.{rules}
 use Rattle.overlay_main.proofs.reply.Goals as goal
 
 module _ (bs : List ℕ) (input : List ℤ) (l : Lent) where
