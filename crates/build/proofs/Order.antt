@@ -17,7 +17,8 @@ use Rattle.geom.specs.declared.Segment.{Segment}
 use Rattle.geom.specs.Order.{Order, sooner, equal, later, order, before-trans, before_irr}
 use Rattle.geom.specs.Plane.{Before, by_x, by_y, before, same_point}
 use Rattle.geom.specs.Rows.{segments}
-use Rattle.geom.specs.Tests.{before?, same_point?, holds, fails, when_false}
+use Rattle.geom.specs.Tests.{holds, fails, when_false}
+use Rattle.geom.proofs.TestsLaws.{before?, same_point?}
 use Rattle.edges.specs.Below.{live}
 use Rattle.scan.specs.Scan.{segment_at}
 use Rattle.build.specs.Sweep.{ordered}

@@ -9,7 +9,8 @@ use Rattle.geom.specs.declared.Segment.{Segment}
 use Rattle.geom.specs.Limits.{segment_limit, work_room}
 use Rattle.geom.specs.Plane.{Side, count, GridSegment}
 use Rattle.geom.specs.Rows.{segments}
-use Rattle.geom.specs.Tests.{fails, when_true, when_false, grid_segment?}
+use Rattle.geom.specs.Tests.{fails, when_true, when_false}
+use Rattle.geom.proofs.TestsLaws.{grid_segment?}
 use Rattle.segm.specs.Balance.{Balanced, balanced}
 use Rattle.segm.specs.BalanceLaws.{uneven?, balanced_test}
 use Rattle.faults.specs.Faults.{some, is_off}

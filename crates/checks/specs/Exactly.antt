@@ -9,7 +9,8 @@ use Rattle.geom.specs.declared.Segment.{Segment}
 use Rattle.geom.specs.Limits.{segment_limit, work_room}
 use Rattle.geom.specs.Plane.{Side, subject, clip, count, on_grid, grid_point, grid_segment}
 use Rattle.geom.specs.Rows.{segments}
-use Rattle.geom.specs.Tests.{Decides, yes, no, holds, fails, said, lt?, same?, same_point?}
+use Rattle.geom.specs.Tests.{Decides, yes, no, holds, fails, said, lt?, same?}
+use Rattle.geom.proofs.TestsLaws.{same_point?}
 use Rattle.whole.specs.Decide.{or, below?, equal?}
 use Rattle.segm.specs.Balance.{balanced, closed}
 use Rattle.segm.specs.BalanceLaws.{Uneven, uneven?}

@@ -12,7 +12,8 @@ use Rattle.whole.specs.Sum.{All, none, also, all_map, Pairs, no_pair, pair}
 use Rattle.geom.specs.declared.Point.{Point}
 use Rattle.geom.specs.declared.Segment.{Segment}
 use Rattle.geom.specs.Plane.{same_point, sameZ}
-use Rattle.geom.specs.Tests.{Decides, yes, no, holds, fails as refuted, same_point?}
+use Rattle.geom.specs.Tests.{Decides, yes, no, holds, fails as refuted}
+use Rattle.geom.proofs.TestsLaws.{same_point?}
 use Rattle.plane.specs.NoEnd.{NoEnd}
 use Rattle.split.specs.Chain.{add_to, columns, next_y, last_of, chain_from, chain}
 

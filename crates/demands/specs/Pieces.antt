@@ -12,7 +12,8 @@ use Rattle.geom.specs.declared.Point.{Point}
 use Rattle.geom.specs.declared.Segment.{Segment}
 use Rattle.geom.specs.Plane.{GridPoint, GridSegment, Before, grid_point, sameZ}
 use Rattle.geom.specs.Order.{before-differ}
-use Rattle.geom.specs.Tests.{same?, grid_point?, holds, when_true}
+use Rattle.geom.specs.Tests.{same?, holds, when_true}
+use Rattle.geom.proofs.TestsLaws.{grid_point?}
 use Rattle.plane.specs.NoEnd.{NoEnd}
 use Rattle.segm.specs.Forward.{forward}
 use Rattle.segm.specs.ForwardLaws.{forward-grid, forward_runs}

@@ -10,7 +10,8 @@ use Rattle.whole.specs.Sign.{Tri, less, same as level, more, tri}
 use Rattle.whole.specs.Test.{of_true, is_false, and_l, and_r, tests, lt-true, lt_gt, le-true, le-false, lt_of, lt_not, eq_z_is, eq_z-true}
 use Rattle.geom.specs.declared.Segment.{Segment}
 use Rattle.geom.specs.Plane.{turn, against, upright, sameZ, before, by_x}
-use Rattle.geom.specs.Tests.{before?, when_false}
+use Rattle.geom.specs.Tests.{when_false}
+use Rattle.geom.proofs.TestsLaws.{before?}
 use Rattle.edges.specs.Below.{alive, lean, lower, under, below, live, under_at}
 
 same : (u : Bool) {a b c : Bool} → a ≡ c → b ≡ c → cond u a b ≡ c

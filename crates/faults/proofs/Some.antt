@@ -14,7 +14,8 @@ use Rattle.whole.specs.Total.{same_or}
 use Rattle.geom.specs.declared.Segment.{Segment}
 use Rattle.geom.specs.Plane.{GridSegment, grid_segment}
 use Rattle.geom.specs.Rows.{segments}
-use Rattle.geom.specs.Tests.{when_true, grid_segment?}
+use Rattle.geom.specs.Tests.{when_true}
+use Rattle.geom.proofs.TestsLaws.{grid_segment?}
 use Rattle.faults.specs.Faults.{some, is_off}
 
 abbrev whole : (Segment → Bool) → List ℤ → ℕ → Bool

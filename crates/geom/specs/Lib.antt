@@ -6,5 +6,4 @@ pub mod Off
 pub mod Order
 pub mod Tests
 pub mod Turned
-pub mod Bounds
 pub mod Limits

@@ -13,7 +13,8 @@ use Rattle.whole.specs.Ring.{ring, reads}
 use Rattle.whole.specs.Test.{or_true}
 use Rattle.geom.specs.declared.Segment.{Segment}
 use Rattle.geom.specs.Plane.{GridSegment, point, upright}
-use Rattle.geom.specs.Tests.{Decides, holds, fails, same?, upright?}
+use Rattle.geom.specs.Tests.{Decides, holds, fails, same?}
+use Rattle.geom.proofs.TestsLaws.{upright?}
 use Rattle.plane.specs.Apart.{o₁}
 use Rattle.plane.specs.Quotients.{nearest, cut_reduced}
 use Rattle.plane.specs.Crossing.{upright-div, level-div}

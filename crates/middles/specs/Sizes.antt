@@ -6,7 +6,7 @@ use Rattle.whole.specs.Fit.{abs-sub, abs-mul-lt}
 use Rattle.geom.specs.declared.Point.{Point}
 use Rattle.geom.specs.declared.Segment.{Segment}
 use Rattle.geom.specs.Plane.{GridPoint, GridSegment, turn}
-use Rattle.geom.specs.Bounds.{gap_near, area_near, turn_near}
+use Rattle.geom.proofs.Bounds.{gap_near, area_near, turn_near}
 use Rattle.plane.specs.Apart.{o₁, o₂}
 use Rattle.plane.specs.Turns.{coords}
 use Rattle.middles.specs.Point.{far}

@@ -6,7 +6,8 @@ use Rattle.std.specs.Int.Signed.{lt_z}
 use Rattle.geom.specs.declared.Point.{Point}
 use Rattle.geom.specs.declared.Segment.{Segment}
 use Rattle.geom.specs.Plane.{Before, before, sameZ, same_point, against}
-use Rattle.geom.specs.Tests.{Decides, said, and, lt?, same?, before?, same_point?}
+use Rattle.geom.specs.Tests.{Decides, said, and, lt?, same?}
+use Rattle.geom.proofs.TestsLaws.{before?, same_point?}
 use Rattle.whole.specs.Decide.{or, opposite, test_is}
 
 -- p comes before q or is q

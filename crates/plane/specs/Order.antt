@@ -2,7 +2,7 @@
 use Rattle.std.specs.Prelude.{◌≡◌, ◌↔◌, T}
 use Rattle.geom.specs.declared.Point.{Point}
 use Rattle.geom.specs.Plane.{Before, before, same_point}
-use Rattle.geom.specs.Tests.{before?, same_point?}
+use Rattle.geom.proofs.TestsLaws.{before?, same_point?}
 use Rattle.whole.specs.Decide.{test_is}
 pub use Rattle.geom.specs.Order.{point-eq, before_irr, before-trans, Order, sooner, equal, later, order}
 

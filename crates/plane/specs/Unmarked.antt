@@ -4,7 +4,8 @@ use Rattle.std.proofs.Common.{inl, inr, ⊎_elim}
 use Rattle.geom.specs.declared.Point.{Point}
 use Rattle.geom.specs.declared.Segment.{Segment}
 use Rattle.geom.specs.Plane.{Before, between}
-use Rattle.geom.specs.Tests.{Decides, yes, no, said, between?}
+use Rattle.geom.specs.Tests.{Decides, yes, no, said}
+use Rattle.geom.proofs.TestsLaws.{between?}
 use Rattle.whole.specs.Decide.{or, opposite, test_is}
 use Rattle.plane.specs.Apart.{Apart, o₁, o₂}
 use Rattle.plane.specs.Meeting.{Meeting, collinear, none, touching, crossing, meeting, Case, all_zero, clear, end_of_f, end_of_e, through, case}

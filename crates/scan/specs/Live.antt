@@ -10,7 +10,8 @@ use Rattle.whole.specs.Sum.{all_of, times_none, Over, over-same, keep, over-keep
 use Rattle.whole.specs.Test.{of_true, and_l, and_r, tests, lt_of, le_of}
 use Rattle.geom.specs.declared.Segment.{Segment}
 use Rattle.geom.specs.Plane.{turn, against, Before, by_x, by_y, upright}
-use Rattle.geom.specs.Tests.{before?, fails}
+use Rattle.geom.specs.Tests.{fails}
+use Rattle.geom.proofs.TestsLaws.{before?}
 use Rattle.edges.specs.Below.{alive, lean, lower, under, below, live}
 use Rattle.scan.specs.Masks.{bottom}
 

@@ -10,7 +10,8 @@ use Rattle.whole.specs.Test.{of_true}
 use Rattle.geom.specs.declared.Point.{Point}
 use Rattle.geom.specs.declared.Segment.{Segment}
 use Rattle.geom.specs.Plane.{same_point}
-use Rattle.geom.specs.Tests.{Decides, yes, no, said, and, test_is, same?, same_point?}
+use Rattle.geom.specs.Tests.{Decides, yes, no, said, and, test_is, same?}
+use Rattle.geom.proofs.TestsLaws.{same_point?}
 use Rattle.segm.specs.Balance.{starting, ending, Balanced, balanced_at, balanced_over, balanced}
 
 -- the two sums agree at both ends of t

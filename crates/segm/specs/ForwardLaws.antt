@@ -6,7 +6,8 @@ use Rattle.whole.specs.Sign.{abs_is}
 use Rattle.geom.specs.declared.Segment.{Segment}
 use Rattle.geom.specs.Plane.{subject, clip, GridSegment, Before, before, turned}
 use Rattle.geom.specs.Order.{Order, sooner, equal, later, order}
-use Rattle.geom.specs.Tests.{before?, when_true, when_false}
+use Rattle.geom.specs.Tests.{when_true, when_false}
+use Rattle.geom.proofs.TestsLaws.{before?}
 use Rattle.segm.specs.Forward.{forward}
 use Rattle.segm.specs.MergeLaws.{Near}
 

@@ -15,7 +15,8 @@ use Rattle.whole.specs.Sum.{All, none, also, all_map, Pairs, no_pair, pair, keep
 use Rattle.geom.specs.declared.Point.{Point}
 use Rattle.geom.specs.declared.Segment.{Segment}
 use Rattle.geom.specs.Plane.{Side, subject, clip, count}
-use Rattle.geom.specs.Tests.{Decides, and, when_false, same_point?}
+use Rattle.geom.specs.Tests.{Decides, and, when_false}
+use Rattle.geom.proofs.TestsLaws.{same_point?}
 use Rattle.whole.specs.Kind.{rows_from}
 use Rattle.geom.specs.Limits.{segment_limit}
 use Rattle.geom.specs.Rows.{segments}

@@ -10,7 +10,8 @@ use Rattle.geom.specs.declared.Point.{Point}
 use Rattle.geom.specs.declared.Segment.{Segment}
 use Rattle.geom.specs.Plane.{GridPoint, GridSegment, Before, sameZ, subject, clip}
 use Rattle.geom.specs.Order.{before-differ}
-use Rattle.geom.specs.Tests.{holds, fails, same?, same_point?, grid_segment?}
+use Rattle.geom.specs.Tests.{holds, fails, same?}
+use Rattle.geom.proofs.TestsLaws.{same_point?, grid_segment?}
 use Rattle.segm.specs.Forward.{forward, in_order, sorted}
 use Rattle.segm.specs.ForwardLaws.{forward-grid, forward_runs}
 use Rattle.segm.specs.Merge.{merged, too_big}

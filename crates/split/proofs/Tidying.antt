@@ -13,7 +13,8 @@ use Rattle.whole.specs.KindLaws.{length-rows, rows-front}
 use Rattle.whole.specs.KindSort.{sorted_front}
 use Rattle.whole.specs.Sorting.{sort, sort-length}
 use Rattle.geom.specs.declared.Point.{Point}
-use Rattle.geom.specs.Tests.{Decides, said, both, same?, same_point?}
+use Rattle.geom.specs.Tests.{Decides, said, both, same?}
+use Rattle.geom.proofs.TestsLaws.{same_point?}
 use Rattle.rows.specs.Sorted.{fitting, in_order}
 use Rattle.rows.specs.SortedLaws.{fitting-true}
 use Rattle.split.specs.declared.answer.Mark.{Mark}

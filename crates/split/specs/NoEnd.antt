@@ -7,7 +7,8 @@ use Rattle.geom.specs.declared.Point.{Point}
 use Rattle.geom.specs.declared.Segment.{Segment}
 use Rattle.geom.specs.Plane.{GridPoint, GridSegment, Before, between, against}
 use Rattle.geom.specs.Order.{before_irr}
-use Rattle.geom.specs.Tests.{when_true, between?}
+use Rattle.geom.specs.Tests.{when_true}
+use Rattle.geom.proofs.TestsLaws.{between?}
 use Rattle.plane.specs.Meeting.{Meeting}
 use Rattle.plane.specs.NoEnd.{NoEnd, NoZero, parted_no_zero}
 use Rattle.cross.specs.declared.answer.Crossing.{Crossing}

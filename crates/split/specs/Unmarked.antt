@@ -7,7 +7,8 @@ use Rattle.geom.specs.declared.Point.{Point}
 use Rattle.geom.specs.declared.Segment.{Segment}
 use Rattle.geom.specs.Plane.{Before, between}
 use Rattle.geom.specs.Order.{before_irr, before-trans}
-use Rattle.geom.specs.Tests.{Decides, yes, no, fails, between?}
+use Rattle.geom.specs.Tests.{Decides, yes, no, fails}
+use Rattle.geom.proofs.TestsLaws.{between?}
 use Rattle.plane.specs.Apart.{Apart}
 use Rattle.plane.specs.Meeting.{Meeting, touching, crossing as through}
 use Rattle.plane.specs.Pierce.{Different}

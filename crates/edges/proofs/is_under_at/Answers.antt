@@ -4,7 +4,7 @@ use mir.Syntax.{w64}
 use mir.Val.{to_z, of_z}
 use Rattle.whole.specs.Fit.{held}
 use Rattle.geom.specs.Plane.{against, upright}
-use Rattle.geom.specs.Bounds.{turn-fits}
+use Rattle.geom.proofs.Bounds.{turn-fits}
 use Rattle.edges.proofs.is_under_at.Goals as goal
 use Rattle.edges.proofs.is_under_at.Goals.{After-turn}
 

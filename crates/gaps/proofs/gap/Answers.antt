@@ -4,7 +4,7 @@ use mir.Facts.{to_z-of_z}
 use mir.Syntax.{w64}
 use mir.Val.{to_z, of_z}
 use Rattle.whole.specs.Fit.{held, widen}
-use Rattle.geom.specs.Bounds.{grid-fits, gap_fits}
+use Rattle.geom.proofs.Bounds.{grid-fits, gap_fits}
 use Rattle.gaps.proofs.gap.Goals as goal
 use Rattle.gaps.proofs.gap.Goals.{After-wide, After-wide-2}
 

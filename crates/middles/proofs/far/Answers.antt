@@ -7,7 +7,7 @@ use mir.Facts.{to_z-of_z}
 use mir.Syntax.{w64}
 use mir.Val.{to_z, of_z}
 use borrow.Author.Rules.{sfits_of}
-use Rattle.geom.specs.Bounds.{gap_near}
+use Rattle.geom.proofs.Bounds.{gap_near}
 use Rattle.middles.specs.Point.{far}
 use Rattle.middles.specs.Sizes.{square_near}
 use Rattle.middles.proofs.far.Goals as goal

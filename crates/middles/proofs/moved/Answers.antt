@@ -6,7 +6,7 @@ use mir.Syntax.{w32, w64}
 use mir.Val.{SFits, to_z, of_z}
 use borrow.Author.Rules.{rules, sfits_of}
 use Rattle.whole.specs.Fit.{widen}
-use Rattle.geom.specs.Bounds.{grid-fits}
+use Rattle.geom.proofs.Bounds.{grid-fits}
 use Rattle.geom.specs.declared.Coord.{Coord}
 use Rattle.middles.proofs.moved.Goals as goal
 use Rattle.middles.proofs.moved.Goals.{After-wide, Start}

@@ -2,7 +2,8 @@
 use mathlib.Core.Path.{sym, ◌∙◌}
 use Rattle.whole.specs.Test.{and_l, and_r}
 use Rattle.geom.specs.Plane.{grid_segment}
-use Rattle.geom.specs.Tests.{when_true, grid_segment?}
+use Rattle.geom.specs.Tests.{when_true}
+use Rattle.geom.proofs.TestsLaws.{grid_segment?}
 use Rattle.cross.specs.Cross.{cross_any}
 use Rattle.cross.specs.Said.{also-said}
 use Rattle.cross.specs.declared.answer.Crossing.TheVariants.{NoLength, OffGrid}

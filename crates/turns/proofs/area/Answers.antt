@@ -4,7 +4,7 @@ use lib.IntN.{◌-ℤ◌}
 use mir.Syntax.{w64}
 use mir.Val.{to_z, of_z}
 use Rattle.whole.specs.Fit.{held}
-use Rattle.geom.specs.Bounds.{gap_fits, area_fits}
+use Rattle.geom.proofs.Bounds.{gap_fits, area_fits}
 use Rattle.turns.proofs.area.Goals as goal
 use Rattle.turns.proofs.area.Goals.{After-gap, After-gap-2}
 

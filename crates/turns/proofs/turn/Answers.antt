@@ -5,7 +5,7 @@ use mir.Syntax.{w64}
 use mir.Val.{to_z, of_z}
 use Rattle.whole.specs.Fit.{held}
 use Rattle.geom.specs.Plane.{turn}
-use Rattle.geom.specs.Bounds.{area_fits, turn-fits}
+use Rattle.geom.proofs.Bounds.{area_fits, turn-fits}
 use Rattle.turns.proofs.turn.Goals as goal
 use Rattle.turns.proofs.turn.Goals.{After-area, After-area-2}
 

@@ -6,7 +6,8 @@ use native.Mathlib.Nat.{eq-or-lt_of_le, not-le_of_lt}
 use native.Mathlib.Omega.{arith}
 use Rattle.geom.specs.declared.Segment.{Segment}
 use Rattle.geom.specs.Plane.{same_point}
-use Rattle.geom.specs.Tests.{same_point?, when_true}
+use Rattle.geom.specs.Tests.{when_true}
+use Rattle.geom.proofs.TestsLaws.{same_point?}
 use Rattle.scan.specs.Scan.{segment_at}
 use Rattle.build.proofs.sweep.node_end.Goals as goal
 use Rattle.build.proofs.sweep.node_end.Goals.{After-same_point}
