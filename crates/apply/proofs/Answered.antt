@@ -8,7 +8,7 @@ use lib.IntN.{ℤ}
 use lib.ListN.{length}
 use borrow.Author.Tests.{lt-ltb, le-ltb}
 use Rattle.whole.specs.Kind.{rows_from, front}
-use Rattle.whole.specs.KindLaws.{sets_front}
+use Rattle.whole.proofs.KindLaws.{sets_front}
 use Rattle.geom.specs.Limits.{work_room, mark_room}
 use Rattle.geom.specs.Rows.{segments}
 use Rattle.faults.specs.Faults.{some, has_least}

@@ -9,7 +9,7 @@ use native.Mathlib.Omega.{arith}
 use lib.IntN.{ℤ}
 use lib.ListN.{length, length-append}
 use Rattle.whole.specs.Kind.{row_at, rows_from, flat}
-use Rattle.whole.specs.KindLaws.{rows_step, rows-done}
+use Rattle.whole.proofs.KindLaws.{rows_step, rows-done}
 use Rattle.geom.specs.declared.Point.{Point}
 use Rattle.geom.specs.declared.Segment.{Segment}
 use Rattle.geom.specs.Rows.{segments}

@@ -10,11 +10,13 @@ use lib.IntN.{ℤ, pos}
 use lib.Signed.{lt_z, ◌<ℤ◌, ◌≤ℤ◌}
 use Rattle.whole.specs.Order.{zz}
 use Rattle.whole.specs.Total.{same_or, side}
-use Rattle.whole.specs.Test.{and_l, and_r, lt_of, lt_not, lt_gt}
+use Rattle.whole.specs.Test.{lt_gt}
+use Rattle.whole.proofs.TestLaws.{and_l, and_r, lt_of, lt_not}
 use Rattle.whole.specs.Kind.{row_at, rows_from}
-use Rattle.whole.specs.KindLaws.{rows_append}
-use Rattle.whole.specs.Sum.{keep, keep_append}
-use Rattle.whole.specs.Sign.{lt_or_le}
+use Rattle.whole.proofs.KindLaws.{rows_append}
+use Rattle.whole.specs.Sum.{keep}
+use Rattle.whole.proofs.SumLaws.{keep_append}
+use Rattle.whole.proofs.SignLaws.{lt_or_le}
 use Rattle.geom.specs.Plane.{sameZ, before}
 use Rattle.geom.specs.Tests.{when_true, when_false, fails, unless, lt?, same?}
 use Rattle.split.specs.declared.answer.Mark.{Mark}

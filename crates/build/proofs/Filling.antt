@@ -10,7 +10,7 @@ use lib.ListN.{length, drop, replicate, length-map, length-replicate}
 use lib.Seq.{sets, sets-eq}
 use borrow.Author.Tests.{ltb-false}
 use Rattle.whole.specs.Kind.{rows_from}
-use Rattle.whole.specs.Test.{neither}
+use Rattle.whole.proofs.TestLaws.{neither}
 use Rattle.geom.specs.declared.Segment.{Segment}
 use Rattle.geom.specs.Limits.{segment_limit, scan_room}
 use Rattle.geom.specs.Rows.{segments}

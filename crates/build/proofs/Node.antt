@@ -7,7 +7,8 @@ use Prim.Native.Nat.{ℕ, ◌+◌, ◌-◌, ◌≤◌, ◌<◌}
 use native.Mathlib.Omega.{arith}
 use lib.IntN.{ℤ}
 use Rattle.whole.specs.Kind.{rows_from}
-use Rattle.whole.specs.Sum.{keep, keep_append, keep-none}
+use Rattle.whole.specs.Sum.{keep}
+use Rattle.whole.proofs.SumLaws.{keep_append, keep-none}
 use Rattle.whole.specs.Total.{side}
 use Rattle.geom.specs.declared.Point.{Point}
 use Rattle.geom.specs.declared.Segment.{Segment}

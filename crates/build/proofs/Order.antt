@@ -11,7 +11,8 @@ use lib.IntN.{ℤ}
 use lib.Signed.{lt_z, ◌≤ℤ◌, ◌<ℤ◌}
 use Rattle.whole.specs.Kind.{rows_from}
 use Rattle.whole.specs.Order.{zz}
-use Rattle.whole.specs.Test.{and_l, and_r, lt-true, lt_of}
+use Rattle.whole.specs.Test.{lt-true}
+use Rattle.whole.proofs.TestLaws.{and_l, and_r, lt_of}
 use Rattle.geom.specs.declared.Point.{Point}
 use Rattle.geom.specs.declared.Segment.{Segment}
 use Rattle.geom.specs.Order.{Order, sooner, equal, later, order, before-trans, before_irr}

@@ -11,8 +11,9 @@ use lib.ListN.{length, length-map}
 use lib.Seq.{sets, length-sets}
 use borrow.Author.Tests.{lt-ltb, le-ltb}
 use Rattle.whole.specs.Kind.{rows_from}
-use Rattle.whole.specs.KindLaws.{sets_append, rows_append, rows-done, length-rows}
-use Rattle.whole.specs.Sum.{All, none, all_map, all_keep, keep}
+use Rattle.whole.proofs.KindLaws.{sets_append, rows_append, rows-done, length-rows}
+use Rattle.whole.specs.Sum.{All, none, keep}
+use Rattle.whole.proofs.SumLaws.{all_map, all_keep}
 use Rattle.geom.specs.declared.Point.{Point}
 use Rattle.geom.specs.declared.Segment.{Segment}
 use Rattle.geom.specs.Rows.{segments}

@@ -11,7 +11,8 @@ use lib.ListN.{length, set}
 use lib.Seq.{sets}
 use lib.Signed.{lt_z}
 use Rattle.whole.specs.Kind.{flat, put_row, row_at}
-use Rattle.whole.specs.KindLaws.{length-flat, sets_flat, row_before}
+use Rattle.whole.specs.KindLaws.{length-flat}
+use Rattle.whole.proofs.KindLaws.{sets_flat, row_before}
 use Rattle.geom.specs.declared.Point.{Point}
 use Rattle.geom.specs.declared.Segment.{Segment}
 use Rattle.geom.specs.Rows.{segments}

@@ -8,7 +8,7 @@ use lib.IntN.{ℤ, pos}
 use lib.ListN.{length, take, drop, get_or, length-map}
 use lib.Seq.{take_at, drop_at, get_or-take, get_or-drop}
 use Rattle.whole.specs.Kind.{row_at, rows_from}
-use Rattle.whole.specs.KindLaws.{rows_step, rows-done, rows_append, length-rows}
+use Rattle.whole.proofs.KindLaws.{rows_step, rows-done, rows_append, length-rows}
 use Rattle.geom.specs.declared.Point.{Point}
 use Rattle.geom.specs.Plane.{sameZ}
 use Rattle.split.specs.Marks.{marks}

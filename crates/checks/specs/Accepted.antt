@@ -3,8 +3,9 @@ use Rattle.std.specs.Prelude.{◌≡◌, false, List, ℕ, ◌*◌, ◌^◌, ◌
 use Rattle.std.proofs.Common.{inl, inr, arith}
 use Rattle.std.proofs.lemmas.Bool.{not-false}
 use Rattle.whole.specs.Kind.{rows_from}
-use Rattle.whole.specs.Sum.{All, all_map, all_by}
-use Rattle.whole.specs.Test.{of_true}
+use Rattle.whole.specs.Sum.{All}
+use Rattle.whole.proofs.SumLaws.{all_map, all_by}
+use Rattle.whole.proofs.TestLaws.{of_true}
 use Rattle.geom.specs.declared.Segment.{Segment}
 use Rattle.geom.specs.Limits.{segment_limit, work_room}
 use Rattle.geom.specs.Plane.{Side, count, GridSegment}

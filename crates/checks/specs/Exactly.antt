@@ -3,7 +3,8 @@ use Rattle.std.specs.Prelude.{◌≡◌, refl, Bool, true, false, not, cond, ◌
 use Rattle.std.proofs.Common.{ap, subst, ◌∙◌, inl, inr, ⊎_elim}
 use Rattle.whole.specs.Kind.{rows_from}
 use Rattle.whole.specs.Order.{zz, nlt_in}
-use Rattle.whole.specs.Sum.{In, here, there, all_in, none}
+use Rattle.whole.specs.Sum.{In, here, there, none}
+use Rattle.whole.proofs.SumLaws.{all_in}
 use Rattle.geom.specs.declared.Point.{Point}
 use Rattle.geom.specs.declared.Segment.{Segment}
 use Rattle.geom.specs.Limits.{segment_limit, work_room}

@@ -9,7 +9,7 @@ use Rattle.std.proofs.Math.Dec.{leb}
 use Rattle.std.proofs.lemmas.Bool.{eqb-false}
 use Rattle.whole.specs.Order.{zz, sub_is, split}
 use Rattle.whole.specs.Sign.{abs_is}
-use Rattle.whole.specs.Test.{and_l, and_r, neither}
+use Rattle.whole.proofs.TestLaws.{and_l, and_r, neither}
 use Rattle.geom.specs.declared.Point.{Point}
 use Rattle.geom.specs.declared.Segment.{Segment}
 use Rattle.geom.specs.Plane.{GridPoint, GridSegment, sign_of, side_of, against}

@@ -5,7 +5,7 @@ use Rattle.std.proofs.Common.{sym, subst, inl, inr, arith}
 use borrow.Author.Tests.{eq-eqb, ne_eqb, eqb-true, eqb-false, le-ltb}
 use Rattle.whole.specs.Order.{zz, split}
 use Rattle.whole.specs.Sign.{abs_is}
-use Rattle.whole.specs.Test.{and_l, and_r, or_true}
+use Rattle.whole.proofs.TestLaws.{and_l, and_r, or_true}
 use Rattle.geom.specs.declared.Point.{Point}
 use Rattle.geom.specs.declared.Segment.{Segment}
 use Rattle.geom.specs.Plane.{sign_of, side_of, against}

@@ -8,7 +8,7 @@ use Rattle.std.proofs.Math.ListN.{length, take}
 use Rattle.std.proofs.lemmas.List.{length-map}
 use Rattle.std.proofs.Math.Seq.{take-append_seam}
 use Rattle.whole.specs.Kind.{rows_from}
-use Rattle.whole.specs.KindLaws.{length-rows, rows-front}
+use Rattle.whole.proofs.KindLaws.{length-rows, rows-front}
 use Rattle.geom.specs.declared.Segment.{Segment}
 use Rattle.geom.specs.Limits.{work_room, mark_room, scan_room}
 use Rattle.geom.specs.Rows.{segments}

@@ -2,7 +2,8 @@
 -- forward, sorting, merging and splitting each keep the boundary of a list (crate laws).
 use Rattle.std.proofs.Common.{sym, ◌∙◌}
 use Rattle.std.specs.Prelude.{List, map}
-use Rattle.whole.specs.Sum.{All, none, also, all_map}
+use Rattle.whole.specs.Sum.{All, none, also}
+use Rattle.whole.proofs.SumLaws.{all_map}
 use Rattle.geom.specs.declared.Segment.{Segment}
 use Rattle.geom.specs.Plane.{Side, count}
 use Rattle.segm.specs.Forward.{forward, sorted}

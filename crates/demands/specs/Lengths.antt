@@ -2,8 +2,9 @@
 use Rattle.std.specs.Prelude.{◌≡◌, refl, Bool, true, false, cond, List, [], ◌∷◌, map, ℕ, suc, ◌+◌, ◌≤◌, ◌<◌, pos, length}
 use Rattle.std.proofs.Common.{ap, ◌∙◌, arith, length-append}
 use Rattle.std.proofs.lemmas.List.{length-map}
-use Rattle.whole.specs.Sorting.{sort-length, perm-length}
-use Rattle.whole.specs.Sum.{keep, keep-yes, keep_no}
+use Rattle.whole.proofs.SortingLaws.{sort-length, perm-length}
+use Rattle.whole.specs.Sum.{keep}
+use Rattle.whole.proofs.SumLaws.{keep-yes, keep_no}
 use Rattle.geom.specs.declared.Point.{Point}
 use Rattle.geom.specs.declared.Segment.{Segment}
 use Rattle.geom.specs.Plane.{sameZ}

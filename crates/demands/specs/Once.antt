@@ -7,8 +7,10 @@ use Rattle.std.proofs.Math.Bool.{true, false}
 use mathlib.Core.List.{List, [], ◌∷◌, ◌++◌, reverse, reverse_aux}
 use native.Mathlib.Omega.{arith}
 use Rattle.std.specs.Int.Signed.{lt_z}
-use Rattle.whole.specs.Sorting.{sum, Perm, sum_of-append}
-use Rattle.whole.specs.Sum.{All, none, also, all_map, Pairs, no_pair, pair}
+use Rattle.whole.specs.Sorting.{sum, Perm}
+use Rattle.whole.proofs.SortingLaws.{sum_of-append}
+use Rattle.whole.specs.Sum.{All, none, also, Pairs, no_pair, pair}
+use Rattle.whole.proofs.SumLaws.{all_map}
 use Rattle.geom.specs.declared.Point.{Point}
 use Rattle.geom.specs.declared.Segment.{Segment}
 use Rattle.geom.specs.Plane.{same_point, sameZ}

@@ -1,7 +1,8 @@
 -- Every list of a run of segments on the grid and with length is on the grid, forward, and strictly in order by its ends, so no two of its segments are equal
 -- ("The run", "Merge").
 use Rattle.std.specs.Prelude.{List, ◌≢◌}
-use Rattle.whole.specs.Sum.{All, none, also, all_map, all-over, all-sort, Pairs}
+use Rattle.whole.specs.Sum.{All, none, also, Pairs}
+use Rattle.whole.proofs.SumLaws.{all_map, all-over, all-sort}
 use Rattle.geom.specs.declared.Point.{Point}
 use Rattle.geom.specs.declared.Segment.{Segment}
 use Rattle.geom.specs.Plane.{GridPoint, GridSegment, Before}

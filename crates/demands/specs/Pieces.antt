@@ -5,9 +5,11 @@ use Rattle.std.proofs.Common.{ap₂, sym, ◌∙◌, arith}
 use Rattle.std.specs.Int.Signed.{lt_z}
 use Rattle.whole.specs.Lex.{whole}
 use Rattle.whole.specs.Total.{Total}
-use Rattle.whole.specs.Sorting.{sort, sort_sorted}
-use Rattle.whole.specs.Sum.{All, none, also, all_map, all_both, all_of, all_append, all-over, all-sort, Pairs, no_pair, pair, all_keep, pairs_keep}
-use Rattle.whole.specs.KindSort.{by_numbers_lem}
+use Rattle.whole.specs.Sorting.{sort}
+use Rattle.whole.proofs.SortingLaws.{sort_sorted}
+use Rattle.whole.specs.Sum.{All, none, also, Pairs, no_pair, pair}
+use Rattle.whole.proofs.SumLaws.{all_map, all_both, all_of, all_append, all-over, all-sort, all_keep, pairs_keep}
+use Rattle.whole.proofs.KindSortLaws.{by_numbers_lem}
 use Rattle.geom.specs.declared.Point.{Point}
 use Rattle.geom.specs.declared.Segment.{Segment}
 use Rattle.geom.specs.Plane.{GridPoint, GridSegment, Before, grid_point, sameZ}
@@ -25,7 +27,7 @@ use Rattle.split.specs.Chain.{points_of, chain, pieces_from, split_from}
 use Rattle.split.proofs.Tidying.{same_mark?}
 use Rattle.overlay.specs.Looks.{radius}
 use Rattle.demands.specs.Chain.{cut}
-use Rattle.whole.specs.DistinctLaws.{distinct_apart, distinct-all}
+use Rattle.whole.proofs.DistinctLaws.{distinct_apart, distinct-all}
 use Rattle.demands.specs.Clear.{Clear, step, clear_of}
 use Rattle.demands.specs.Once.{Once, from_a_to_b, next_differs, chain-all}
 

@@ -2,8 +2,9 @@
 use Rattle.std.specs.Prelude.{◌≡◌, refl, List, [], ◌∷◌, map, ℕ, zero, suc, ◌+◌, ◌<◌, ℤ, length, get_or, take}
 use Rattle.std.proofs.Common.{sym, ap, ◌∙◌, subst, arith, get_or-take}
 use Rattle.whole.specs.Kind.{row_at, rows_from}
-use Rattle.whole.specs.KindLaws.{rows_at, length-rows}
-use Rattle.whole.specs.Sum.{Pairs, pair, In, here, there, all_in}
+use Rattle.whole.proofs.KindLaws.{rows_at, length-rows}
+use Rattle.whole.specs.Sum.{Pairs, pair, In, here, there}
+use Rattle.whole.proofs.SumLaws.{all_in}
 use Rattle.geom.specs.declared.Segment.{Segment}
 use Rattle.geom.specs.Rows.{segments}
 use Rattle.scan.specs.Masks.{byte_of, bytes}

@@ -1,7 +1,8 @@
 -- Settled (demand 1): a look without marks at an ordered list leaves every two of its edges apart, and so with no common point but ends of both
 -- ("Points off the grid": said of all X, Y, d).
 use Rattle.std.specs.Prelude.{◌≡◌, List, []}
-use Rattle.whole.specs.Sum.{All, none, all_map, Pairs, no_pair, pairs_map}
+use Rattle.whole.specs.Sum.{All, none, Pairs, no_pair}
+use Rattle.whole.proofs.SumLaws.{all_map, pairs_map}
 use Rattle.geom.specs.declared.Segment.{Segment}
 use Rattle.geom.specs.Order.{before-differ}
 use Rattle.geom.specs.Off.{Off, On, EndOf}

@@ -5,7 +5,8 @@ use Rattle.std.specs.Prelude.{◌≡◌, true, false, List, map, ◌↔◌, ◌�
 use Rattle.std.proofs.Common.{sym, ap, ◌∙◌}
 use Rattle.whole.specs.Order.{zz}
 use Rattle.whole.specs.Kind.{row_at}
-use Rattle.whole.specs.Sum.{All, all_both, In, all_in}
+use Rattle.whole.specs.Sum.{All, In}
+use Rattle.whole.proofs.SumLaws.{all_both, all_in}
 use Rattle.geom.specs.declared.Point.{Point}
 use Rattle.geom.specs.declared.Segment.{Segment}
 use Rattle.geom.specs.Plane.{Side, Before, by_x, by_y, count}

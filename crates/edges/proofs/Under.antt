@@ -5,9 +5,12 @@ use mathlib.Core.List.{[], ◌∷◌}
 use lib.IntN.{ℤ, pos, ◌+ℤ◌}
 use lib.Signed.{lt_z, ◌<ℤ◌}
 use Rattle.whole.specs.Order.{zz, add_is}
-use Rattle.whole.specs.Ring.{ring, reads}
-use Rattle.whole.specs.Sign.{Tri, less, same as level, more, tri}
-use Rattle.whole.specs.Test.{of_true, is_false, and_l, and_r, tests, lt-true, lt_gt, le-true, le-false, lt_of, lt_not, eq_z_is, eq_z-true}
+use Rattle.whole.specs.Ring.{reads}
+use Rattle.whole.proofs.RingLaws.{ring}
+use Rattle.whole.specs.Sign.{Tri, less, same as level, more}
+use Rattle.whole.proofs.SignLaws.{tri}
+use Rattle.whole.specs.Test.{is_false, tests, lt-true, lt_gt, le-true, le-false}
+use Rattle.whole.proofs.TestLaws.{of_true, and_l, and_r, lt_of, lt_not, eq_z_is, eq_z-true}
 use Rattle.geom.specs.declared.Segment.{Segment}
 use Rattle.geom.specs.Plane.{turn, against, upright, sameZ, before, by_x}
 use Rattle.geom.specs.Tests.{when_false}

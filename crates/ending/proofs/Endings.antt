@@ -10,8 +10,8 @@ use borrow.Author.Tests.{le-ltb}
 use denote.Enum.Declared.{tag_of}
 use types.Run.{OneOf, miss}
 use Rattle.whole.specs.Kind.{rows_from, front}
-use Rattle.whole.specs.KindLaws.{length-rows}
-use Rattle.whole.specs.Sum.{all_map}
+use Rattle.whole.proofs.KindLaws.{length-rows}
+use Rattle.whole.proofs.SumLaws.{all_map}
 use Rattle.geom.specs.declared.Segment.{Segment}
 use Rattle.geom.specs.Limits.{segment_limit, work_room, scan_room}
 use Rattle.geom.specs.Rows.{segments}

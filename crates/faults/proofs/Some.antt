@@ -8,8 +8,8 @@ use native.Mathlib.Nat.{sub-zero}
 use native.Mathlib.Omega.{arith}
 use lib.IntN.{ℤ}
 use Rattle.whole.specs.Kind.{row_at, rows_from}
-use Rattle.whole.specs.KindLaws.{rows_step, rows-done}
-use Rattle.whole.specs.Test.{neither, not_false}
+use Rattle.whole.proofs.KindLaws.{rows_step, rows-done}
+use Rattle.whole.proofs.TestLaws.{neither, not_false}
 use Rattle.whole.specs.Total.{same_or}
 use Rattle.geom.specs.declared.Segment.{Segment}
 use Rattle.geom.specs.Plane.{GridSegment, grid_segment}

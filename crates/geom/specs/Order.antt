@@ -2,7 +2,8 @@
 use Rattle.std.specs.Prelude.{◌≡◌}
 use Rattle.std.proofs.Common.{sym, ap, ap₂, ◌∙◌}
 use Rattle.whole.specs.Order.{zz}
-use Rattle.whole.specs.Sign.{Tri, less, same, more, tri}
+use Rattle.whole.specs.Sign.{Tri, less, same, more}
+use Rattle.whole.proofs.SignLaws.{tri}
 use Rattle.geom.specs.declared.Point.{Point}
 use Rattle.geom.specs.Plane.{point, Before, by_x, by_y}
 

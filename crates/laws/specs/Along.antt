@@ -8,8 +8,10 @@ use Rattle.std.proofs.Math.Path.{ap}
 use Rattle.std.proofs.Math.IntN.{+ℤ_comm}
 use Rattle.std.specs.Int.Signed.{le_z, lt_z}
 use Rattle.whole.specs.Order.{zz, add_is}
-use Rattle.whole.specs.Sum.{All, all_map, all_both, ind, Over, over-two, In}
-use Rattle.whole.specs.Test.{of_true, and_l, and_r, and_same, lt-true, lt_of, le_of, lt_not, le_not}
+use Rattle.whole.specs.Sum.{All, ind, Over, In}
+use Rattle.whole.proofs.SumLaws.{all_map, all_both, over-two}
+use Rattle.whole.specs.Test.{lt-true}
+use Rattle.whole.proofs.TestLaws.{of_true, and_l, and_r, and_same, lt_of, le_of, lt_not, le_not}
 use Rattle.geom.specs.declared.Point.{Point}
 use Rattle.geom.specs.declared.Segment.{Segment}
 use Rattle.geom.specs.Plane.{against, by_x, subject, clip}

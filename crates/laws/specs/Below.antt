@@ -5,10 +5,14 @@ use Rattle.std.proofs.Common.{◌∙◌, ap}
 use Rattle.std.proofs.Math.IntN.{*ℤ-zero}
 use Rattle.std.specs.Int.Signed.{le_z, lt_z}
 use Rattle.whole.specs.Order.{zz, add_is, sub_is}
-use Rattle.whole.specs.Ring.{ring, reads}
-use Rattle.whole.specs.Sign.{Tri, tri, less, same, more, mul_pos}
-use Rattle.whole.specs.Sum.{all_of, Over, over-same}
-use Rattle.whole.specs.Test.{and_l, and_r, and_same, tests, lt_of, le_of, eq_z-true, eq_z-false}
+use Rattle.whole.specs.Ring.{reads}
+use Rattle.whole.proofs.RingLaws.{ring}
+use Rattle.whole.specs.Sign.{Tri, less, same, more}
+use Rattle.whole.proofs.SignLaws.{tri, mul_pos}
+use Rattle.whole.specs.Sum.{Over}
+use Rattle.whole.proofs.SumLaws.{all_of, over-same}
+use Rattle.whole.specs.Test.{tests}
+use Rattle.whole.proofs.TestLaws.{and_l, and_r, and_same, lt_of, le_of, eq_z-true, eq_z-false}
 use Rattle.geom.specs.declared.Segment.{Segment}
 use Rattle.geom.specs.Plane.{against, Before, by_x, by_y, upright}
 use Rattle.edges.specs.Below.{alive, lean, lower, under, below}

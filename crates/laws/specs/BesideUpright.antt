@@ -6,9 +6,11 @@ use Rattle.std.proofs.Common.{◌∙◌, subst, inl, inr}
 use Rattle.std.proofs.Math.Bool.{Bool}
 use Rattle.std.specs.Int.Signed.{le_z, lt_z}
 use Rattle.whole.specs.Order.{zz, add_is}
-use Rattle.whole.specs.Sum.{All, all_of, all_map, all_both, Over, over-same, over_none, In}
+use Rattle.whole.specs.Sum.{All, Over, In}
+use Rattle.whole.proofs.SumLaws.{all_of, all_map, all_both, over-same, over_none}
 use Rattle.plane.specs.Scaled.{at, spot, unscale_lt, before_at}
-use Rattle.whole.specs.Test.{is_true, is_false, and_l, and_r, and_same, lt-true, tests, lt_of, le_of, eq_z_is}
+use Rattle.whole.specs.Test.{is_true, is_false, lt-true, tests}
+use Rattle.whole.proofs.TestLaws.{and_l, and_r, and_same, lt_of, le_of, eq_z_is}
 use Rattle.geom.specs.declared.Segment.{Segment}
 use Rattle.geom.specs.Plane.{against, sameZ, Before, by_y}
 use Rattle.geom.specs.Off.{Off, cross, On, rising}

@@ -8,8 +8,10 @@ use Rattle.std.proofs.Common.{sym, ◌∙◌, ap₂}
 use mathlib.Core.List.{List, [], ◌∷◌}
 use Rattle.std.proofs.Math.IntN.{*ℤ-zero}
 use Rattle.whole.specs.Order.{zz, sub_is}
-use Rattle.whole.specs.Ring.{ring, reads}
-use Rattle.whole.specs.Sum.{All, none, also, all_map, Sum, sum_same, sum-sub, sum-scale, sum-zero, ind, Over}
+use Rattle.whole.specs.Ring.{reads}
+use Rattle.whole.proofs.RingLaws.{ring}
+use Rattle.whole.specs.Sum.{All, none, also, Sum, ind, Over}
+use Rattle.whole.proofs.SumLaws.{all_map, sum_same, sum-sub, sum-scale, sum-zero}
 use Rattle.geom.specs.declared.Point.{Point}
 use Rattle.geom.specs.declared.Segment.{Segment}
 use Rattle.geom.specs.Plane.{same_point}

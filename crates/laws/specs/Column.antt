@@ -6,9 +6,12 @@ use Rattle.std.proofs.Common.{sym, ◌∙◌, ap}
 use Rattle.std.proofs.Math.IntN.{*ℤ-zero}
 use Rattle.std.specs.Int.Signed.{le_z, lt_z}
 use Rattle.whole.specs.Order.{zz, add_is, sub_is}
-use Rattle.whole.specs.Ring.{ring, reads}
-use Rattle.whole.specs.Sign.{Tri, tri, less, same, more, mul_pos, mul_pos_neg}
-use Rattle.whole.specs.Sum.{All, all_map, ind, Over, over-three}
+use Rattle.whole.specs.Ring.{reads}
+use Rattle.whole.proofs.RingLaws.{ring}
+use Rattle.whole.specs.Sign.{Tri, less, same, more}
+use Rattle.whole.proofs.SignLaws.{tri, mul_pos, mul_pos_neg}
+use Rattle.whole.specs.Sum.{All, ind, Over}
+use Rattle.whole.proofs.SumLaws.{all_map, over-three}
 use Rattle.whole.specs.Test.{lt-true, tests}
 use Rattle.geom.specs.declared.Point.{Point}
 use Rattle.geom.specs.declared.Segment.{Segment}

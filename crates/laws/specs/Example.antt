@@ -2,7 +2,8 @@
 -- upright one on its left, and its ray counts 1: the top of the one, the bottom of the other.
 use Rattle.std.specs.Prelude.{◌≡◌, refl, List, [], ◌∷◌, ℤ, pos, negsuc, ◌+ℤ◌, ◌-ℤ◌, ◌*ℤ◌}
 use Rattle.whole.specs.Order.{zz, add_is, sub_is}
-use Rattle.whole.specs.Ring.{ring, reads}
+use Rattle.whole.specs.Ring.{reads}
+use Rattle.whole.proofs.RingLaws.{ring}
 use Rattle.whole.specs.Sum.{none, also, Sum, Over, here, there}
 use Rattle.geom.specs.declared.Segment.{Segment}
 use Rattle.geom.specs.Plane.{point, segment, Side, subject, clip, count, before, same_point, turn}

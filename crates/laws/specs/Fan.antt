@@ -5,9 +5,12 @@ use Rattle.std.specs.Prelude.{◌≡◌, [], ◌∷◌, true, ◌⊎◌, ℤ, po
 use Rattle.std.proofs.Common.{sym, ◌∙◌, ap, subst, inl, inr}
 use Rattle.std.specs.Int.Signed.{lt_z}
 use Rattle.whole.specs.Order.{zz, add_is, sub_is, neg_is}
-use Rattle.whole.specs.Ring.{ring, reads}
-use Rattle.whole.specs.Sign.{Tri, tri, less, same, more, mul_pos, mul_nonneg, pos_right}
-use Rattle.whole.specs.Test.{lt-true, tests, lt_of}
+use Rattle.whole.specs.Ring.{reads}
+use Rattle.whole.proofs.RingLaws.{ring}
+use Rattle.whole.specs.Sign.{Tri, less, same, more}
+use Rattle.whole.proofs.SignLaws.{tri, mul_pos, mul_nonneg, pos_right}
+use Rattle.whole.specs.Test.{lt-true, tests}
+use Rattle.whole.proofs.TestLaws.{lt_of}
 use Rattle.geom.specs.declared.Point.{Point}
 use Rattle.geom.specs.declared.Segment.{Segment}
 use Rattle.geom.specs.Plane.{turn, against, Before}

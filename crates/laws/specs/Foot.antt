@@ -4,11 +4,13 @@ use Rattle.std.specs.Prelude.{◌≡◌, refl, [], ◌∷◌, true, ℤ, pos, ne
 use Rattle.std.proofs.Common.{sym, ◌∙◌, ⊎_elim}
 use Rattle.std.specs.Int.Signed.{le_z, lt_z}
 use Rattle.whole.specs.Order.{zz, add_is, sub_is}
-use Rattle.whole.specs.Ring.{ring, reads}
-use Rattle.whole.specs.Sign.{lt_or_le}
+use Rattle.whole.specs.Ring.{reads}
+use Rattle.whole.proofs.RingLaws.{ring}
+use Rattle.whole.proofs.SignLaws.{lt_or_le}
 use Rattle.plane.specs.Scaled.{scale-lt, scale-le, unscale_lt}
 use Rattle.plane.specs.Mean.{mean_on}
-use Rattle.whole.specs.Test.{and_l, and_r, lt-true, lt-false, le-true, le-false, lt_of, le_of}
+use Rattle.whole.specs.Test.{lt-true, lt-false, le-true, le-false}
+use Rattle.whole.proofs.TestLaws.{and_l, and_r, lt_of, le_of}
 use Rattle.geom.specs.declared.Segment.{Segment}
 use Rattle.geom.specs.Off.{Off, cross, On}
 use Rattle.laws.specs.Ray.{alive_at}

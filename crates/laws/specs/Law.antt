@@ -7,7 +7,8 @@ use Rattle.std.specs.Prelude.{◌≡◌, List, [], ◌∷◌, true, ◌&&◌, �
 use Rattle.std.proofs.Math.Path.{sym, ap, fun_ext}
 use Rattle.std.proofs.Common.{◌∙◌}
 use Rattle.whole.specs.Order.{zz, add_is}
-use Rattle.whole.specs.Sum.{All, none, also, all_map, all_both, sum_on, Over, over-same, over_none, over-one, over-two, keep, sum-keep, over-keep, all_keep, pairs_keep, pairs_map, In, here, there}
+use Rattle.whole.specs.Sum.{All, none, also, Over, keep, In, here, there}
+use Rattle.whole.proofs.SumLaws.{all_map, all_both, sum_on, over-same, over_none, over-one, over-two, sum-keep, over-keep, all_keep, pairs_keep, pairs_map}
 use Rattle.geom.specs.declared.Point.{Point}
 use Rattle.geom.specs.declared.Segment.{Segment}
 use Rattle.geom.specs.Plane.{Before, by_x, by_y, Side, count, subject, clip}

@@ -5,8 +5,10 @@ use Rattle.std.proofs.Common.{sym, ◌∙◌, ap, ⊎_elim}
 use Rattle.std.proofs.Math.IntN.{*ℤ-zero}
 use Rattle.std.specs.Int.Signed.{lt_z}
 use Rattle.whole.specs.Order.{zz, add_is, sub_is, neg_is}
-use Rattle.whole.specs.Ring.{ring, reads}
-use Rattle.whole.specs.Sign.{Tri, tri, less, same, more, lt_or_le, mul_pos, mul_pos_neg, pos_right, neg_right}
+use Rattle.whole.specs.Ring.{reads}
+use Rattle.whole.proofs.RingLaws.{ring}
+use Rattle.whole.specs.Sign.{Tri, less, same, more}
+use Rattle.whole.proofs.SignLaws.{tri, lt_or_le, mul_pos, mul_pos_neg, pos_right, neg_right}
 use Rattle.whole.specs.Sum.{All}
 use Rattle.plane.specs.Scaled.{spot, scale-lt, scale-le, unscale_le, before_at}
 use Rattle.whole.specs.Test.{lt-true, lt_gt}

@@ -7,10 +7,13 @@ use Rattle.std.proofs.Math.Bool.{not-not}
 use Rattle.std.proofs.Math.IntN.{*ℤ-zero, *ℤ_comm}
 use Rattle.std.specs.Int.Signed.{le_z, lt_z}
 use Rattle.whole.specs.Order.{zz, add_is, sub_is, neg_is}
-use Rattle.whole.specs.Ring.{ring, reads}
-use Rattle.whole.specs.Sign.{cancel_lt, mul_mono}
-use Rattle.whole.specs.Sum.{all_map, all_both, ind, Over, over-two, In}
-use Rattle.whole.specs.Test.{and_l, and_r, and_same, lt-true, lt-false, le-true, lt_of, le_of, lt_not, le_not}
+use Rattle.whole.specs.Ring.{reads}
+use Rattle.whole.proofs.RingLaws.{ring}
+use Rattle.whole.proofs.SignLaws.{cancel_lt, mul_mono}
+use Rattle.whole.specs.Sum.{ind, Over, In}
+use Rattle.whole.proofs.SumLaws.{all_map, all_both, over-two}
+use Rattle.whole.specs.Test.{lt-true, lt-false, le-true}
+use Rattle.whole.proofs.TestLaws.{and_l, and_r, and_same, lt_of, le_of, lt_not, le_not}
 use Rattle.geom.specs.declared.Point.{Point}
 use Rattle.geom.specs.declared.Segment.{Segment}
 use Rattle.geom.specs.Plane.{turn, against, by_x}

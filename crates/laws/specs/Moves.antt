@@ -7,11 +7,14 @@ use Rattle.std.proofs.Math.Bool.{Bool, ◌&&◌}
 use Rattle.std.proofs.Math.IntN.{*ℤ_comm}
 use Rattle.std.specs.Int.Signed.{le_z, lt_z}
 use Rattle.whole.specs.Order.{zz, add_is, sub_is}
-use Rattle.whole.specs.Ring.{ring, reads}
-use Rattle.whole.specs.Sign.{mul_pos}
-use Rattle.whole.specs.Sum.{All, all_of, all_map, all_both, Over, over-same, over_none}
+use Rattle.whole.specs.Ring.{reads}
+use Rattle.whole.proofs.RingLaws.{ring}
+use Rattle.whole.proofs.SignLaws.{mul_pos}
+use Rattle.whole.specs.Sum.{All, Over}
+use Rattle.whole.proofs.SumLaws.{all_of, all_map, all_both, over-same, over_none}
 use Rattle.plane.specs.Scaled.{at, spot, before_at}
-use Rattle.whole.specs.Test.{is_true, is_false, and_l, and_r, and_same, lt_of, le_of, eq_z_is}
+use Rattle.whole.specs.Test.{is_true, is_false}
+use Rattle.whole.proofs.TestLaws.{and_l, and_r, and_same, lt_of, le_of, eq_z_is}
 use Rattle.geom.specs.declared.Point.{Point}
 use Rattle.geom.specs.declared.Segment.{Segment}
 use Rattle.geom.specs.Plane.{turn, against, sameZ, Before}

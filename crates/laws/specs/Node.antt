@@ -9,10 +9,13 @@ use Rattle.std.proofs.Math.Bool.{true, false}
 use Rattle.std.proofs.Math.IntN.{pos, *ℤ-zero, zero-*ℤ}
 use Rattle.std.specs.Int.Signed.{le_z, lt_z}
 use Rattle.whole.specs.Order.{zz, add_is, sub_is}
-use Rattle.whole.specs.Ring.{ring, reads}
-use Rattle.whole.specs.Sign.{Tri, tri, less, same, more, mul_pos, mul_pos_neg, mul_nonneg, mul-neg-neg, mul_nonpos_nonpos, zero_product}
+use Rattle.whole.specs.Ring.{reads}
+use Rattle.whole.proofs.RingLaws.{ring}
+use Rattle.whole.specs.Sign.{Tri, less, same, more}
+use Rattle.whole.proofs.SignLaws.{tri, mul_pos, mul_pos_neg, mul_nonneg, mul-neg-neg, mul_nonpos_nonpos, zero_product}
 use Rattle.whole.specs.Sum.{ind}
-use Rattle.whole.specs.Test.{and_l, and_r, and_same, lt-false, tests, lt_of, le_of}
+use Rattle.whole.specs.Test.{lt-false, tests}
+use Rattle.whole.proofs.TestLaws.{and_l, and_r, and_same, lt_of, le_of}
 use Rattle.geom.specs.declared.Point.{Point}
 use Rattle.geom.specs.declared.Segment.{Segment}
 use Rattle.geom.specs.Plane.{turn, against, same_point, Before, by_x, by_y}

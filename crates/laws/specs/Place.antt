@@ -6,9 +6,12 @@ use Rattle.std.specs.Prelude.{◌≡◌, [], ◌∷◌, Bool, true, false, ◌�
 use Rattle.std.proofs.Common.{sym, inl, inr}
 use Rattle.std.specs.Int.Signed.{le_z, lt_z}
 use Rattle.whole.specs.Order.{zz, add_is, sub_is, neg_is}
-use Rattle.whole.specs.Ring.{ring, reads}
-use Rattle.whole.specs.Sign.{Tri, tri, less, same, more, mul_pos, mul_nonneg, mul_pos_neg, mul_nonneg_nonpos, lt_by_contra}
-use Rattle.whole.specs.Test.{lt-true, lt-false, le-true, le-false, eq_z-true}
+use Rattle.whole.specs.Ring.{reads}
+use Rattle.whole.proofs.RingLaws.{ring}
+use Rattle.whole.specs.Sign.{Tri, less, same, more}
+use Rattle.whole.proofs.SignLaws.{tri, mul_pos, mul_nonneg, mul_pos_neg, mul_nonneg_nonpos, lt_by_contra}
+use Rattle.whole.specs.Test.{lt-true, lt-false, le-true, le-false}
+use Rattle.whole.proofs.TestLaws.{eq_z-true}
 use Rattle.geom.specs.declared.Segment.{Segment}
 use Rattle.geom.specs.Plane.{turn}
 use Rattle.plane.specs.Turns.{turn_self, turn_end}

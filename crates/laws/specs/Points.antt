@@ -2,7 +2,8 @@
 use Rattle.std.specs.Prelude.{◌≡◌, true, false, ◌≤ℤ◌}
 use Rattle.std.proofs.Common.{subst, inl, inr}
 use Rattle.whole.specs.Order.{zz}
-use Rattle.whole.specs.Test.{is_true, is_false, of_true}
+use Rattle.whole.specs.Test.{is_true, is_false}
+use Rattle.whole.proofs.TestLaws.{of_true}
 use Rattle.geom.specs.declared.Point.{Point}
 use Rattle.geom.specs.Plane.{same_point, Before, by_x, by_y}
 use Rattle.plane.specs.Order.{same-point_is, before_irr, before-trans}

@@ -6,8 +6,9 @@ use Rattle.std.proofs.Common.{◌∙◌}
 use mathlib.Core.List.{List, [], ◌∷◌, map}
 use Rattle.std.proofs.Math.Bool.{true, false}
 use Rattle.std.proofs.Math.IntN.{pos}
-use Rattle.whole.specs.Sorting.{sort-perm}
-use Rattle.whole.specs.Sum.{Sum, keep, keep-yes, keep_no}
+use Rattle.whole.proofs.SortingLaws.{sort-perm}
+use Rattle.whole.specs.Sum.{Sum, keep}
+use Rattle.whole.proofs.SumLaws.{keep-yes, keep_no}
 use Rattle.geom.specs.declared.Point.{Point}
 use Rattle.geom.specs.declared.Segment.{Segment}
 use Rattle.geom.specs.Plane.{Side, subject, clip, count, before, turned}

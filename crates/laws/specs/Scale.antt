@@ -4,12 +4,13 @@ use Rattle.std.proofs.Common.{sym, ◌∙◌, ap, ap₂, subst}
 use Rattle.std.proofs.Math.IntN.{*ℤ-zero}
 use Rattle.std.specs.Int.Signed.{le_z, lt_z}
 use Rattle.whole.specs.Order.{zz, add_is}
-use Rattle.whole.specs.Ring.{ring, reads}
-use Rattle.whole.specs.Sign.{mul_pos}
+use Rattle.whole.specs.Ring.{reads}
+use Rattle.whole.proofs.RingLaws.{ring}
+use Rattle.whole.proofs.SignLaws.{mul_pos}
 use Rattle.plane.specs.Scaled.{at, spot}
 use Rattle.plane.specs.Mean.{mean_on}
 use Rattle.plane.specs.Exactly.{apart_exactly}
-use Rattle.whole.specs.Test.{and_l, and_r, lt_of, le_of}
+use Rattle.whole.proofs.TestLaws.{and_l, and_r, lt_of, le_of}
 use Rattle.geom.specs.declared.Segment.{Segment}
 use Rattle.geom.specs.Plane.{turn, against, Before}
 use Rattle.geom.specs.Off.{Off, cross, On, Within, rising, falling}

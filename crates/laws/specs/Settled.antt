@@ -2,8 +2,10 @@
 use Rattle.std.specs.Prelude.{◌≡◌, refl, List, [], ◌∷◌, Bool, true, false, ◌&&◌, T, ◌⊎◌, ℤ, pos, ◌+ℤ◌, ◌*ℤ◌}
 use Rattle.std.proofs.Common.{◌∙◌, ap, subst, inl, inr}
 use Rattle.plane.specs.Decide.{and_is}
-use Rattle.whole.specs.Ring.{ring, reads}
-use Rattle.whole.specs.Sum.{All, none, also, all_map, all_both, all_in, Pairs, no_pair, pair, In, here, there, Sum, ind, Over, over_none}
+use Rattle.whole.specs.Ring.{reads}
+use Rattle.whole.proofs.RingLaws.{ring}
+use Rattle.whole.specs.Sum.{All, none, also, Pairs, no_pair, pair, In, here, there, Sum, ind, Over}
+use Rattle.whole.proofs.SumLaws.{all_map, all_both, all_in, over_none}
 use Rattle.geom.specs.declared.Segment.{Segment}
 use Rattle.geom.specs.Plane.{Before, before}
 use Rattle.plane.specs.Order.{before_is}

@@ -5,9 +5,11 @@ use Rattle.std.specs.Prelude.{◌≡◌, refl, List, [], ◌∷◌, ◌++◌, ma
 use Rattle.std.proofs.Math.Path.{sym, ap, ap₂}
 use Rattle.std.proofs.Common.{◌∙◌}
 use Rattle.std.proofs.Math.IntN.{◌+ℤ◌}
-use Rattle.whole.specs.Ring.{ring, reads}
+use Rattle.whole.specs.Ring.{reads}
+use Rattle.whole.proofs.RingLaws.{ring}
 use Rattle.whole.specs.Sorting.{Perm}
-use Rattle.whole.specs.Sum.{assoc, Sum, sum-append, sum-map, sum_same, sum-perm}
+use Rattle.whole.specs.Sum.{Sum}
+use Rattle.whole.proofs.SumLaws.{assoc, sum-append, sum-map, sum_same, sum-perm}
 use Rattle.geom.specs.declared.Point.{Point}
 use Rattle.geom.specs.declared.Segment.{Segment}
 use Rattle.geom.specs.Plane.{Side, count, subject, clip, turned}

@@ -7,9 +7,11 @@ use Rattle.std.proofs.Common.{◌∙◌, inl, inr}
 use mathlib.Core.List.{List, [], ◌∷◌}
 use Rattle.std.proofs.Math.Bool.{true, false}
 use Rattle.std.proofs.Math.IntN.{◌+ℤ◌}
-use Rattle.whole.specs.Ring.{ring, reads}
-use Rattle.whole.specs.Sum.{assoc, add-zero, times_none, All, none, also, all_map, all_both, Pairs, no_pair, pair, Sum, sum_on, sum_same, sum-zero, ind, Over}
-use Rattle.whole.specs.Test.{of_true}
+use Rattle.whole.specs.Ring.{reads}
+use Rattle.whole.proofs.RingLaws.{ring}
+use Rattle.whole.specs.Sum.{All, none, also, Pairs, no_pair, pair, Sum, ind, Over}
+use Rattle.whole.proofs.SumLaws.{assoc, add-zero, times_none, all_map, all_both, sum_on, sum_same, sum-zero}
+use Rattle.whole.proofs.TestLaws.{of_true}
 
 -- counts of several areas, one for each i: what stands below is a number for each. The rise of g at the counts u over P
 unfoldable pub rise : {I : Type 0} → ((I → ℤ) → ℤ) → (I → ℤ) → (I → ℤ) → ℤ

@@ -7,8 +7,10 @@ use Rattle.std.proofs.Common.{◌∙◌, inl, inr}
 use Rattle.std.proofs.Math.Bool.{Bool}
 use Rattle.std.specs.Int.Signed.{le_z, lt_z}
 use Rattle.whole.specs.Order.{zz, add_is}
-use Rattle.whole.specs.Sum.{all_of, all_map, all_both, Over, over-same, In}
-use Rattle.whole.specs.Test.{is_true, is_false, and_l, and_r, and_same, tests, lt_of, le_of, eq_z_is}
+use Rattle.whole.specs.Sum.{Over, In}
+use Rattle.whole.proofs.SumLaws.{all_of, all_map, all_both, over-same}
+use Rattle.whole.specs.Test.{is_true, is_false, tests}
+use Rattle.whole.proofs.TestLaws.{and_l, and_r, and_same, lt_of, le_of, eq_z_is}
 use Rattle.geom.specs.declared.Point.{Point}
 use Rattle.geom.specs.declared.Segment.{Segment}
 use Rattle.geom.specs.Plane.{sameZ, Before, by_x, by_y}

@@ -9,8 +9,9 @@ use native.Mathlib.Nat.{zero-div}
 use lib.IntN.{ℤ, pos, negsuc, ◌+ℤ◌, ◌-ℤ◌, ◌*ℤ◌, *ℤ_comm}
 use lib.Signed.{quot_z}
 use Rattle.whole.specs.Order.{zz, add_is}
-use Rattle.whole.specs.Ring.{ring, reads}
-use Rattle.whole.specs.Test.{or_true}
+use Rattle.whole.specs.Ring.{reads}
+use Rattle.whole.proofs.RingLaws.{ring}
+use Rattle.whole.proofs.TestLaws.{or_true}
 use Rattle.geom.specs.declared.Segment.{Segment}
 use Rattle.geom.specs.Plane.{GridSegment, point, upright}
 use Rattle.geom.specs.Tests.{Decides, holds, fails, same?}

@@ -1,7 +1,8 @@
 -- How large the numbers of a middle crossing are ("Crossing": the products stay below 2^94 and need two limbs).
 use Rattle.std.specs.Prelude.{◌≡◌, ℕ, ◌*◌, ◌<◌, ◌≤◌, ◌^◌, ℤ, nat_abs, ◌-ℤ◌, ◌*ℤ◌}
 use Rattle.std.proofs.Common.{mul-le-mul, arith}
-use Rattle.whole.specs.Ring.{ring, reads}
+use Rattle.whole.specs.Ring.{reads}
+use Rattle.whole.proofs.RingLaws.{ring}
 use Rattle.whole.specs.Fit.{abs-sub, abs-mul-lt}
 use Rattle.geom.specs.declared.Point.{Point}
 use Rattle.geom.specs.declared.Segment.{Segment}

@@ -12,9 +12,10 @@ use lib.IntN.{ℤ, pos}
 use lib.ListN.{length, replicate}
 use borrow.Author.Tests.{lt-ltb, le-ltb}
 use Rattle.whole.specs.Append.{Added}
-use Rattle.whole.specs.AppendLaws.{all-front, Coming, coming-step, coming-none}
+use Rattle.whole.specs.AppendLaws.{Coming, coming-none}
+use Rattle.whole.proofs.AppendLaws.{all-front, coming-step}
 use Rattle.whole.specs.Kind.{row_at, rows_from}
-use Rattle.whole.specs.KindLaws.{rows_step, rows-done}
+use Rattle.whole.proofs.KindLaws.{rows_step, rows-done}
 use Rattle.geom.specs.declared.Segment.{Segment}
 use Rattle.geom.specs.Limits.{mark_room}
 use Rattle.geom.specs.Rows.{segments}

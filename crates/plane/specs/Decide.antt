@@ -1,6 +1,7 @@
 -- What tests decide, said with T: two tests together, and the test of equality. The laws of deciding are whole's (module Decide there).
 use Rattle.std.specs.Prelude.{◌≡◌, Bool, ◌&&◌, ◌↔◌, T, ℤ}
-use Rattle.whole.specs.Decide.{and, same?, test_is, decided}
+use Rattle.whole.specs.Decide.{and, test_is, decided}
+use Rattle.whole.proofs.DecideLaws.{same?}
 use Rattle.geom.specs.Plane.{sameZ}
 
 pub and_is : (b c : Bool) {A B : Type 0} → (T b ↔ A) → (T c ↔ B) → T (b && c) ↔ (A × B)

@@ -3,8 +3,9 @@
 use Rattle.std.specs.Prelude.{◌≡◌, [], ◌∷◌, ◌≢◌, ℤ, pos, ◌+ℤ◌, ◌*ℤ◌, ◌≤ℤ◌, ◌<ℤ◌}
 use Rattle.std.proofs.Common.{sym, ◌∙◌, ap, subst, inl, inr, ⊎_elim}
 use Rattle.whole.specs.Order.{zz, add_is}
-use Rattle.whole.specs.Ring.{ring, reads}
-use Rattle.whole.specs.Sign.{lt_or_le, mul_pos, mul_nonneg, mul_pos_neg, mul_nonneg_nonpos, zero_product}
+use Rattle.whole.specs.Ring.{reads}
+use Rattle.whole.proofs.RingLaws.{ring}
+use Rattle.whole.proofs.SignLaws.{lt_or_le, mul_pos, mul_nonneg, mul_pos_neg, mul_nonneg_nonpos, zero_product}
 use Rattle.geom.specs.declared.Point.{Point}
 use Rattle.geom.specs.declared.Segment.{Segment}
 use Rattle.geom.specs.Plane.{Before, turn}

@@ -5,7 +5,8 @@
 use Rattle.std.specs.Prelude.{◌≡◌, ◌⊎◌, ℤ, pos, ◌≤ℤ◌, ◌<ℤ◌}
 use Rattle.std.proofs.Common.{sym, subst, inl, inr}
 use Rattle.whole.specs.Order.{zz, neg_is}
-use Rattle.whole.specs.Sign.{Tri, less, same, more, tri}
+use Rattle.whole.specs.Sign.{Tri, less, same, more}
+use Rattle.whole.proofs.SignLaws.{tri}
 use Rattle.geom.specs.declared.Point.{Point}
 use Rattle.geom.specs.declared.Segment.{Segment}
 use Rattle.geom.specs.Plane.{Before}

@@ -4,8 +4,10 @@ use Rattle.std.specs.Prelude.{◌≡◌, refl, [], ◌∷◌, ◌≢◌, ℕ, ze
 use Rattle.std.proofs.Common.{sym, ◌∙◌, ap, ap₂, ⊎_elim, div-add-mod', mod-lt, div-lt_iff_lt-mul, arith}
 use Rattle.std.specs.Int.Signed.{quot_z}
 use Rattle.whole.specs.Order.{zz, add_is, neg_is}
-use Rattle.whole.specs.Ring.{ring, reads}
-use Rattle.whole.specs.Sign.{Tri, less, same, more, tri, mul_pos, nonneg_right, neg_right, zero_product}
+use Rattle.whole.specs.Ring.{reads}
+use Rattle.whole.proofs.RingLaws.{ring}
+use Rattle.whole.specs.Sign.{Tri, less, same, more}
+use Rattle.whole.proofs.SignLaws.{tri, mul_pos, nonneg_right, neg_right, zero_product}
 use Rattle.plane.specs.Scaled.{scale-le, scale-lt}
 use Rattle.plane.specs.Round.{Cut, Nearest, cut-near, nearest-near, cut-one, Rounded, over, under}
 

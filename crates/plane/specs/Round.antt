@@ -3,8 +3,10 @@
 use Rattle.std.specs.Prelude.{◌≡◌, [], ◌∷◌, zero, ◌+◌, ◌<◌, ◌≤◌, ℤ, pos, neg_ℤ, ◌+ℤ◌, ◌*ℤ◌, ◌≤ℤ◌, ◌<ℤ◌}
 use Rattle.std.proofs.Common.{sym, ◌∙◌, ap, ⊎_elim}
 use Rattle.whole.specs.Order.{zz, add_is, neg_is, mul_is}
-use Rattle.whole.specs.Ring.{ring, reads}
-use Rattle.whole.specs.Sign.{less, lt_or_le}
+use Rattle.whole.specs.Ring.{reads}
+use Rattle.whole.proofs.RingLaws.{ring}
+use Rattle.whole.specs.Sign.{less}
+use Rattle.whole.proofs.SignLaws.{lt_or_le}
 use Rattle.plane.specs.Scaled.{scale-lt, unscale_lt}
 
 -- ---- q is less than 1 from n/d

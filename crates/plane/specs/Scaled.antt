@@ -4,8 +4,9 @@ use Rattle.std.specs.Prelude.{◌≡◌, [], ◌∷◌, ℤ, pos, ◌+ℤ◌, �
 use Rattle.std.proofs.Common.{sym, ◌∙◌, ap}
 use Rattle.std.proofs.Math.IntN.{*ℤ_comm}
 use Rattle.whole.specs.Order.{zz, add_is, sub_is}
-use Rattle.whole.specs.Ring.{ring, reads}
-use Rattle.whole.specs.Sign.{mul_pos, mul_mono, mul_mono_lt, cancel_lt, cancel_le}
+use Rattle.whole.specs.Ring.{reads}
+use Rattle.whole.proofs.RingLaws.{ring}
+use Rattle.whole.proofs.SignLaws.{mul_pos, mul_mono, mul_mono_lt, cancel_lt, cancel_le}
 use Rattle.geom.specs.declared.Point.{Point}
 use Rattle.geom.specs.Plane.{point, Before, by_x, by_y}
 use Rattle.geom.specs.Off.{Off, Is}

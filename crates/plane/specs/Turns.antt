@@ -2,7 +2,8 @@
 use Rattle.std.specs.Prelude.{◌≡◌, List, [], ◌∷◌, ℤ, pos, neg_ℤ, ◌+ℤ◌, ◌-ℤ◌, ◌*ℤ◌, ◌<ℤ◌}
 use Rattle.std.proofs.Common.{◌∙◌, ap₂}
 use Rattle.whole.specs.Order.{zz, add_is, sub_is}
-use Rattle.whole.specs.Ring.{ring, reads}
+use Rattle.whole.specs.Ring.{reads}
+use Rattle.whole.proofs.RingLaws.{ring}
 use Rattle.geom.specs.declared.Point.{Point}
 use Rattle.geom.specs.declared.Segment.{Segment}
 use Rattle.geom.specs.Plane.{Before, by_x, by_y, turn, against}

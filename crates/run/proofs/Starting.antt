@@ -7,8 +7,8 @@ use native.Mathlib.Omega.{arith}
 use lib.IntN.{ℤ}
 use lib.ListN.{length, length-map}
 use Rattle.whole.specs.Kind.{rows_from, front}
-use Rattle.whole.specs.KindLaws.{length-rows, rows-front, length_front}
-use Rattle.whole.specs.Sum.{all_map}
+use Rattle.whole.proofs.KindLaws.{length-rows, rows-front, length_front}
+use Rattle.whole.proofs.SumLaws.{all_map}
 use Rattle.geom.specs.declared.Segment.{Segment}
 use Rattle.geom.specs.Limits.{work_room}
 use Rattle.geom.specs.Plane.{subject, clip}

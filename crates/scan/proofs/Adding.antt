@@ -10,9 +10,11 @@ use mir.Syntax.{w32, w64}
 use mir.Val.{SFits}
 use Rattle.whole.specs.Fit.{abs-add, sum_fits}
 use Rattle.whole.specs.Kind.{rows_from}
-use Rattle.whole.specs.KindLaws.{rows_append}
-use Rattle.whole.specs.Ring.{ring, reads}
-use Rattle.whole.specs.Sum.{Sum, Over, ind, assoc, add-zero, sum-append}
+use Rattle.whole.proofs.KindLaws.{rows_append}
+use Rattle.whole.specs.Ring.{reads}
+use Rattle.whole.proofs.RingLaws.{ring}
+use Rattle.whole.specs.Sum.{Sum, Over, ind}
+use Rattle.whole.proofs.SumLaws.{assoc, add-zero, sum-append}
 use Rattle.geom.specs.declared.Segment.{Segment}
 use Rattle.geom.specs.Plane.{Side, subject, clip}
 use Rattle.edges.specs.Below.{below}

@@ -12,7 +12,7 @@ use lib.ListN.{length}
 use Rattle.whole.specs.Kind.{Kind, row_at, rows_from}
 use Rattle.whole.specs.Pass.{Pass, pass}
 use Rattle.whole.specs.Sum.{All, none, also, keep}
-use Rattle.whole.specs.Test.{of_true}
+use Rattle.whole.proofs.TestLaws.{of_true}
 use Rattle.geom.specs.Rows.{segments}
 use Rattle.scan.specs.declared.list.Entry.{Entry}
 use Rattle.scan.specs.Scan.{segment_at, entry_of, entries_from, named, EntryOf}

@@ -7,8 +7,9 @@ use lib.IntN.{ℤ}
 use lib.ListN.{length, length-append}
 use Rattle.whole.specs.Append.{Added, put_all}
 use Rattle.whole.specs.Kind.{rows_from, front}
-use Rattle.whole.specs.AppendLaws.{all-front, all_append, length-all}
-use Rattle.whole.specs.KindLaws.{rows-front}
+use Rattle.whole.specs.AppendLaws.{all_append}
+use Rattle.whole.proofs.AppendLaws.{all-front, length-all}
+use Rattle.whole.proofs.KindLaws.{rows-front}
 use Rattle.scan.specs.declared.list.Entry.{Entry}
 use Rattle.scan.specs.Scan.{entries, Holds}
 

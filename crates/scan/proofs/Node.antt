@@ -6,7 +6,8 @@ use native.Mathlib.Omega.{arith}
 use lib.IntN.{ℤ, ◌*ℤ◌}
 use lib.ListN.{length}
 use Rattle.whole.specs.Kind.{rows_from}
-use Rattle.whole.specs.Sum.{all_of, sum_on, sum-map, ind, Over, over-same, over-keep, keep}
+use Rattle.whole.specs.Sum.{ind, Over, keep}
+use Rattle.whole.proofs.SumLaws.{all_of, sum_on, sum-map, over-same, over-keep}
 use Rattle.geom.specs.declared.Point.{Point}
 use Rattle.geom.specs.declared.Segment.{Segment}
 use Rattle.geom.specs.Plane.{Side, subject, clip, count}

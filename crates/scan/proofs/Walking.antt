@@ -10,10 +10,12 @@ use lib.IntN.{ℤ, nat_abs}
 use lib.ListN.{length, take, length-append}
 use lib.Seq.{take_at}
 use Rattle.whole.specs.Kind.{row_at, put_row, rows_from}
-use Rattle.whole.specs.KindLaws.{rows_step, rows-done, rows_append, length-rows}
-use Rattle.whole.specs.PassLaws.{Going, going_start, going_skip, going_put, done}
-use Rattle.whole.specs.Sum.{All, none, also, all_map, all_both, all_keep, all_of, Sum, Over, over-same, keep, keep-yes, keep_no}
-use Rattle.whole.specs.Test.{neither, or_false}
+use Rattle.whole.proofs.KindLaws.{rows_step, rows-done, rows_append, length-rows}
+use Rattle.whole.specs.PassLaws.{Going, going_start}
+use Rattle.whole.proofs.PassLaws.{going_skip, going_put, done}
+use Rattle.whole.specs.Sum.{All, none, also, Sum, Over, keep}
+use Rattle.whole.proofs.SumLaws.{all_map, all_both, all_keep, all_of, over-same, keep-yes, keep_no}
+use Rattle.whole.proofs.TestLaws.{neither, or_false}
 use Rattle.geom.specs.declared.Point.{Point}
 use Rattle.geom.specs.declared.Segment.{Segment}
 use Rattle.geom.specs.Plane.{Side, subject, clip}

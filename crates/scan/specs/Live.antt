@@ -4,10 +4,13 @@ use Rattle.std.specs.Prelude.{◌≡◌, refl, List, [], ◌∷◌, Bool, true, 
 use Rattle.std.proofs.Common.{sym, ◌∙◌}
 use Rattle.std.specs.Int.Signed.{le_z, lt_z}
 use Rattle.whole.specs.Order.{zz, add_is, sub_is}
-use Rattle.whole.specs.Ring.{ring, reads}
-use Rattle.whole.specs.Sign.{mul_pos_neg, le_by_contra}
-use Rattle.whole.specs.Sum.{all_of, times_none, Over, over-same, keep, over-keep}
-use Rattle.whole.specs.Test.{of_true, and_l, and_r, tests, lt_of, le_of}
+use Rattle.whole.specs.Ring.{reads}
+use Rattle.whole.proofs.RingLaws.{ring}
+use Rattle.whole.proofs.SignLaws.{mul_pos_neg, le_by_contra}
+use Rattle.whole.specs.Sum.{Over, keep}
+use Rattle.whole.proofs.SumLaws.{all_of, times_none, over-same, over-keep}
+use Rattle.whole.specs.Test.{tests}
+use Rattle.whole.proofs.TestLaws.{of_true, and_l, and_r, lt_of, le_of}
 use Rattle.geom.specs.declared.Segment.{Segment}
 use Rattle.geom.specs.Plane.{turn, against, Before, by_x, by_y, upright}
 use Rattle.geom.specs.Tests.{fails}

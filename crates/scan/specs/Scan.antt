@@ -1,7 +1,7 @@
 -- The scan list ("Input and answer"): an entry is the number of a segment and its two counts, 64 bits each. And what is read off it at a node ("Masks").
 use Rattle.std.specs.Prelude.{◌≡◌, refl, Bool, true, false, cond, ◌||◌, List, [], ◌∷◌, ◌++◌, ℕ, zero, suc, ◌+◌, ◌*◌, ◌-◌, ◌<◌, ◌≤◌, ℤ, pos, nat_abs, ◌+ℤ◌, ◌*ℤ◌, length, get_or}
 use Rattle.whole.specs.Kind.{Kind, row_at, rows_from, front}
-use Rattle.whole.specs.KindLaws.{three-numbered, three-short}
+use Rattle.whole.proofs.KindLaws.{three-numbered, three-short}
 use Rattle.whole.specs.Sum.{Over, ind, keep}
 use Rattle.geom.specs.declared.Point.{Point}
 use Rattle.geom.specs.declared.Segment.{Segment}

@@ -13,9 +13,10 @@ use mir.Syntax.{w32}
 use mir.Val.{SFits}
 use Rattle.whole.specs.Fit.{fits-abs}
 use Rattle.whole.specs.Kind.{row_at, put_row, rows_from, front, flat}
-use Rattle.whole.specs.KindLaws.{rows_step, rows-done}
-use Rattle.whole.specs.PassLaws.{Going, going_start, going_skip, going_put, done, done_put}
-use Rattle.whole.specs.Test.{neither}
+use Rattle.whole.proofs.KindLaws.{rows_step, rows-done}
+use Rattle.whole.specs.PassLaws.{Going, going_start}
+use Rattle.whole.proofs.PassLaws.{going_skip, going_put, done, done_put}
+use Rattle.whole.proofs.TestLaws.{neither}
 use Rattle.geom.specs.declared.Segment.{Segment}
 use Rattle.geom.specs.Rows.{segments}
 use Rattle.groups.specs.declared.Group.{Group}

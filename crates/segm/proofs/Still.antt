@@ -4,12 +4,13 @@ use mathlib.Core.Path.{◌≡◌, refl, sym, ap, ◌∙◌}
 use mathlib.Core.Bool.{Bool, true, false, not, cond, ◌&&◌, ◌||◌}
 use mathlib.Core.List.{List, [], ◌∷◌, ◌++◌}
 use Rattle.whole.specs.Pass.{Pass, pass}
-use Rattle.whole.specs.Sum.{keep, keep-yes, keep_no}
+use Rattle.whole.specs.Sum.{keep}
+use Rattle.whole.proofs.SumLaws.{keep-yes, keep_no}
 use Rattle.geom.specs.declared.Segment.{Segment}
 use Rattle.groups.specs.declared.Group.{Group}
 use Rattle.groups.specs.Group.{is_empty, joint, alone, with_one, far_group, is_dropped, left}
 use Rattle.segm.specs.Merge.{same_ends, plus, groups_from, merged_from, paired_from, any_far}
-use Rattle.whole.specs.Test.{or_true, or_false}
+use Rattle.whole.proofs.TestLaws.{or_true, or_false}
 
 abbrev pub merging : Pass Segment Group
 merging =

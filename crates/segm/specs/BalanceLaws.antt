@@ -5,8 +5,9 @@ use Rattle.std.proofs.Common.{◌∙◌, subst}
 use mathlib.Core.List.{List, [], ◌∷◌}
 use Rattle.std.proofs.Math.Bool.{true, false}
 use Rattle.std.proofs.Math.Logic.{inl, inr}
-use Rattle.whole.specs.Sum.{All, none, also, all_map, all_of, over_none}
-use Rattle.whole.specs.Test.{of_true}
+use Rattle.whole.specs.Sum.{All, none, also}
+use Rattle.whole.proofs.SumLaws.{all_map, all_of, over_none}
+use Rattle.whole.proofs.TestLaws.{of_true}
 use Rattle.geom.specs.declared.Point.{Point}
 use Rattle.geom.specs.declared.Segment.{Segment}
 use Rattle.geom.specs.Plane.{same_point}

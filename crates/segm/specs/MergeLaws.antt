@@ -10,8 +10,9 @@ use Rattle.std.specs.Int.Signed.{lt_z}
 use borrow.Author.Tests.{lt-ltb, le-ltb}
 use Rattle.whole.specs.Order.{split, lt-false}
 use Rattle.whole.specs.Sign.{abs_is}
-use Rattle.whole.specs.Test.{neither, or_true}
-use Rattle.whole.specs.Sum.{All, none, also, all_map, Pairs, no_pair, pair, keep, keep-yes, keep_no, all_keep, pairs_keep}
+use Rattle.whole.proofs.TestLaws.{neither, or_true}
+use Rattle.whole.specs.Sum.{All, none, also, Pairs, no_pair, pair, keep}
+use Rattle.whole.proofs.SumLaws.{all_map, keep-yes, keep_no, all_keep, pairs_keep}
 use Rattle.geom.specs.declared.Point.{Point}
 use Rattle.geom.specs.declared.Segment.{Segment}
 use Rattle.geom.specs.Plane.{Side, subject, clip, count}

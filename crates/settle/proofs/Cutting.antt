@@ -11,11 +11,12 @@ use borrow.Author.Tests.{ltb-false, le-ltb}
 use denote.Enum.Declared.{tag_of}
 use types.Run.{OneOf, miss}
 use Rattle.whole.specs.Kind.{rows_from, front}
-use Rattle.whole.specs.KindLaws.{length-rows, rows-front, length_front}
+use Rattle.whole.proofs.KindLaws.{length-rows, rows-front, length_front}
 use Rattle.whole.specs.Pass.{pass}
 use Rattle.whole.specs.Distinct.{differing, distinct}
-use Rattle.whole.specs.Sorting.{sort, sort-length}
-use Rattle.whole.specs.Sum.{all_map}
+use Rattle.whole.specs.Sorting.{sort}
+use Rattle.whole.proofs.SortingLaws.{sort-length}
+use Rattle.whole.proofs.SumLaws.{all_map}
 use Rattle.geom.specs.declared.Segment.{Segment}
 use Rattle.geom.specs.Limits.{work_room, mark_room}
 use Rattle.geom.specs.Rows.{segments}

@@ -7,8 +7,8 @@ use native.Mathlib.Omega.{arith}
 use lib.IntN.{ℤ}
 use lib.ListN.{length}
 use Rattle.whole.specs.Kind.{rows_from, front}
-use Rattle.whole.specs.KindLaws.{length-rows, rows-front, length_front}
-use Rattle.whole.specs.Sorting.{sort-length}
+use Rattle.whole.proofs.KindLaws.{length-rows, rows-front, length_front}
+use Rattle.whole.proofs.SortingLaws.{sort-length}
 use Rattle.whole.specs.Sum.{All}
 use Rattle.geom.specs.declared.Segment.{Segment}
 use Rattle.geom.specs.Limits.{work_room}

@@ -13,8 +13,8 @@ use borrow.Author.Tests.{ltb-false, le-ltb, eq-eqb, ne_eqb}
 use denote.Enum.Declared.{tag_of}
 use types.Run.{OneOf, miss}
 use Rattle.whole.specs.Kind.{rows_from}
-use Rattle.whole.specs.KindLaws.{length-rows, rows-front, length_front}
-use Rattle.whole.specs.Sum.{all_map}
+use Rattle.whole.proofs.KindLaws.{length-rows, rows-front, length_front}
+use Rattle.whole.proofs.SumLaws.{all_map}
 use Rattle.geom.specs.declared.Segment.{Segment}
 use Rattle.geom.specs.Limits.{segment_limit, work_room, mark_room}
 use Rattle.geom.specs.Rows.{segments}

@@ -11,8 +11,10 @@ use lib.Signed.{lt_z}
 use Rattle.whole.specs.Order.{zz}
 use Rattle.whole.specs.Lex.{lex, pick}
 use Rattle.whole.specs.Total.{told}
-use Rattle.whole.specs.Sorting.{sort, sort_sorted}
-use Rattle.whole.specs.Sum.{All, none, also, all_map, Pairs, no_pair, pair}
+use Rattle.whole.specs.Sorting.{sort}
+use Rattle.whole.proofs.SortingLaws.{sort_sorted}
+use Rattle.whole.specs.Sum.{All, none, also, Pairs, no_pair, pair}
+use Rattle.whole.proofs.SumLaws.{all_map}
 use Rattle.geom.specs.declared.Segment.{Segment}
 use Rattle.geom.specs.Plane.{GridSegment, before}
 use Rattle.geom.specs.Tests.{lt?, holds, fails}
@@ -21,7 +23,7 @@ use Rattle.split.specs.Look.{look, tidy, mark_order, same_mark}
 use Rattle.split.specs.LookLaws.{Number, look_cuts, cut-number}
 use Rattle.split.proofs.Tidying.{same_mark?}
 use Rattle.apply.specs.Answer.{names, earlier, leads, in_order}
-use Rattle.whole.specs.DistinctLaws.{distinct-strict}
+use Rattle.whole.proofs.DistinctLaws.{distinct-strict}
 use Rattle.demands.specs.Pieces.{mark-order, tidy-all}
 use Rattle.overlay.specs.Looks.{radius}
 

@@ -5,7 +5,8 @@ use mathlib.Core.List.{List, map}
 use Prim.Native.Nat.{◌≤◌}
 use native.Mathlib.Omega.{arith}
 use lib.IntN.{ℤ, negsuc, nat_abs}
-use Rattle.whole.specs.Sum.{All, none, also, all_map, all_both, all-over, all-sort}
+use Rattle.whole.specs.Sum.{All, none, also}
+use Rattle.whole.proofs.SumLaws.{all_map, all_both, all-over, all-sort}
 use Rattle.geom.specs.declared.Point.{Point}
 use Rattle.geom.specs.declared.Segment.{Segment}
 use Rattle.geom.specs.Plane.{GridPoint, GridSegment, Before, sameZ, subject, clip}

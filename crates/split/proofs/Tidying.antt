@@ -9,9 +9,10 @@ use lib.ListN.{length}
 use lib.Signed.{lt_z}
 use Rattle.whole.specs.Distinct.{Dropped}
 use Rattle.whole.specs.Kind.{rows_from, front}
-use Rattle.whole.specs.KindLaws.{length-rows, rows-front}
-use Rattle.whole.specs.KindSort.{sorted_front}
-use Rattle.whole.specs.Sorting.{sort, sort-length}
+use Rattle.whole.proofs.KindLaws.{length-rows, rows-front}
+use Rattle.whole.proofs.KindSortLaws.{sorted_front}
+use Rattle.whole.specs.Sorting.{sort}
+use Rattle.whole.proofs.SortingLaws.{sort-length}
 use Rattle.geom.specs.declared.Point.{Point}
 use Rattle.geom.specs.Tests.{Decides, said, both, same?}
 use Rattle.geom.proofs.TestsLaws.{same_point?}

@@ -3,7 +3,8 @@
 use Rattle.std.specs.Prelude.{◌≡◌, refl, ◌↔◌, ℕ, suc, ◌+◌, ◌<◌, pos, length}
 use mathlib.Core.List.{List, [], ◌∷◌, ◌++◌}
 use Rattle.std.proofs.Common.{arith}
-use Rattle.whole.specs.Sum.{All, none, also, all_map, all_append, Pairs, no_pair, pair}
+use Rattle.whole.specs.Sum.{All, none, also, Pairs, no_pair, pair}
+use Rattle.whole.proofs.SumLaws.{all_map, all_append}
 use Rattle.geom.specs.declared.Point.{Point}
 use Rattle.geom.specs.declared.Segment.{Segment}
 use Rattle.geom.specs.Plane.{GridPoint, GridSegment, Before}

@@ -1,7 +1,7 @@
 -- A mark is a row of three numbers: segment, x, y ("Input and answer").
 use Rattle.std.specs.Prelude.{refl, List, [], ◌∷◌, ℕ, ◌+◌, ℤ, pos, get_or}
 use Rattle.whole.specs.Kind.{Kind}
-use Rattle.whole.specs.KindLaws.{three-numbered, three-short}
+use Rattle.whole.proofs.KindLaws.{three-numbered, three-short}
 use Rattle.geom.specs.Plane.{point}
 use Rattle.split.specs.declared.answer.Mark.{Mark}
 

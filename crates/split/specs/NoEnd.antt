@@ -2,7 +2,8 @@
 -- moved to never lies on the other line, so that there is nothing to skip.
 use Rattle.std.specs.Prelude.{◌≡◌, refl, Bool, true, false, cond, ◌||◌, ◌≢◌, ℕ, ltb, pos}
 use Rattle.std.proofs.Common.{subst}
-use Rattle.whole.specs.Sum.{All, none, also, all_append}
+use Rattle.whole.specs.Sum.{All, none, also}
+use Rattle.whole.proofs.SumLaws.{all_append}
 use Rattle.geom.specs.declared.Point.{Point}
 use Rattle.geom.specs.declared.Segment.{Segment}
 use Rattle.geom.specs.Plane.{GridPoint, GridSegment, Before, between, against}

@@ -2,7 +2,7 @@
 use Rattle.std.specs.Prelude.{◌≡◌, refl, Bool, not, cond, ◌||◌, List, [], ◌∷◌, ◌++◌, ◌↔◌, ℕ}
 use Rattle.std.proofs.Math.Bool.{true, false}
 use Rattle.std.proofs.Common.{arith}
-use Rattle.whole.specs.Test.{or_false}
+use Rattle.whole.proofs.TestLaws.{or_false}
 use Rattle.geom.specs.declared.Point.{Point}
 use Rattle.geom.specs.declared.Segment.{Segment}
 use Rattle.geom.specs.Plane.{Before, between}

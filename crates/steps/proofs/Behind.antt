@@ -8,7 +8,8 @@ use lib.ListN.{length, take, drop, replicate, length-replicate, replicate-append
 use lib.Seq.{take_at, drop_at, drop-length}
 use borrow.Rule.Slice.PartMut.{mid_of, post_of, put_mid, Post-is, mid_len}
 use Rattle.whole.specs.Kind.{flat, rows_from, front}
-use Rattle.whole.specs.KindLaws.{length-flat, length-rows, front-rows}
+use Rattle.whole.specs.KindLaws.{length-flat}
+use Rattle.whole.proofs.KindLaws.{length-rows, front-rows}
 use Rattle.geom.specs.declared.Segment.{Segment}
 use Rattle.geom.specs.Rows.{segments}
 

@@ -8,8 +8,8 @@ use lib.IntN.{ℤ}
 use lib.ListN.{length}
 use lib.Signed.{lt_z}
 use Rattle.whole.specs.Kind.{rows_from, front}
-use Rattle.whole.specs.KindLaws.{length-rows, rows-front, length_front}
-use Rattle.whole.specs.Sorting.{sort-length}
+use Rattle.whole.proofs.KindLaws.{length-rows, rows-front, length_front}
+use Rattle.whole.proofs.SortingLaws.{sort-length}
 use Rattle.geom.specs.declared.Segment.{Segment}
 use Rattle.geom.specs.Limits.{segment_limit}
 use Rattle.geom.specs.Rows.{segments}

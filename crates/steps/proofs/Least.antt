@@ -10,14 +10,14 @@ use lib.Signed.{◌<ℤ◌, ◌≤ℤ◌}
 use mir.Syntax.{w32}
 use mir.Val.{SFits}
 use Rattle.whole.specs.Order.{zz, mag_in, neg_is, sfits_out}
-use Rattle.whole.specs.Sign.{lt_or_le}
+use Rattle.whole.proofs.SignLaws.{lt_or_le}
 use Rattle.whole.specs.Kind.{row_at, rows_from}
 use Rattle.geom.specs.declared.Count.{Count}
 use Rattle.geom.specs.declared.Segment.{Segment}
 use Rattle.geom.specs.Plane.{sameZ, Countable}
 use Rattle.geom.specs.Tests.{when_false, same?}
 use Rattle.geom.specs.Rows.{segments}
-use Rattle.whole.specs.Test.{neither}
+use Rattle.whole.proofs.TestLaws.{neither}
 use Rattle.faults.specs.Faults.{some, has_least}
 use Rattle.faults.proofs.Some.{clean_at}
 

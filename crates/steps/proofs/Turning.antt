@@ -7,7 +7,7 @@ use lib.IntN.{ℤ}
 use lib.ListN.{length, length-map}
 use lib.Seq.{sets}
 use Rattle.whole.specs.Kind.{row_at, put_row, flat, rows_from, front}
-use Rattle.whole.specs.KindLaws.{rows_step, rows-done, sets_flat, sets_front, length-rows}
+use Rattle.whole.proofs.KindLaws.{rows_step, rows-done, sets_flat, sets_front, length-rows}
 use Rattle.geom.specs.Rows.{segments}
 use Rattle.segm.specs.Forward.{forward}
 

@@ -3,7 +3,7 @@ use Rattle.std.specs.Prelude.{◌≡◌, refl, List, [], ◌∷◌, ◌++◌, �
 use Rattle.std.proofs.Common.{sym, ap, ◌∙◌, arith, length-append}
 use Rattle.std.proofs.lemmas.List.Edits.{sets}
 use Rattle.std.proofs.Math.Seq.{length-sets, set_out}
-use Rattle.whole.specs.KindLaws.{sets_append}
+use Rattle.whole.proofs.KindLaws.{sets_append}
 use Rattle.text.specs.Put.{Put}
 
 pub put_none : {out : List ℕ} {at : ℕ} → Put out at [] at out

@@ -15,22 +15,12 @@ use Rattle.std.proofs.Math.Seq.{sets, take-nil}
 use borrow.Author.Tests.{le-ltb, ltb-true, ltb-false}
 use Rattle.whole.specs.Kind.{Kind, put_row, flat, front}
 use Rattle.whole.specs.Append.{put_next, put_all, Added}
-use Rattle.whole.specs.KindLaws.{length_put, sets_flat, sets_front}
 
-length_if : (t : Bool) (xs ys : List ℤ) → length ys ≡ length xs → length (cond t ys xs) ≡ length xs
+pub length_if : (t : Bool) (xs ys : List ℤ) → length ys ≡ length xs → length (cond t ys xs) ≡ length xs
 length_if true xs ys e = e
 length_if false xs ys e = refl
 
 module _ {A : Type 0} (R : Kind A) where
-  length-next : (room : ℕ) (xs : List ℤ) (k : ℕ) (v : A) → length (put_next R room xs k v) ≡ length xs
-  unfolding put_next
-  length-next room xs k v = length_if (ltb k room) xs (put_row R xs k v) (length_put R xs k v)
-
-  pub length-all : (room : ℕ) (xs : List ℤ) (k : ℕ) (vs : List A) → length (put_all R room xs k vs) ≡ length xs
-  unfolding put_all
-  length-all room xs k [] = refl
-  length-all room xs k (v ∷ vs) = length-all room (put_next R room xs k v) (suc k) vs ∙ length-next room xs k v
-
   -- in two parts
   pub all_append : (room : ℕ) (xs : List ℤ) (k : ℕ) (vs ws : List A)
       → put_all R room xs k (vs ++ ws) ≡ put_all R room (put_all R room xs k vs) (k + length vs) ws
@@ -45,32 +35,6 @@ module _ {A : Type 0} (R : Kind A) where
   unfolding put_all put_next
   all-full room xs k [] h = refl
   all-full room xs k (v ∷ vs) h = rw (le-ltb k room h) (all-full room xs (suc k) vs (omega arith))
-
-  -- those that fit stand one after the other, from number k on
-  pub all-flat : (room : ℕ) (xs : List ℤ) (k : ℕ) (vs : List A) → put_all R room xs k vs ≡ sets xs (R.width * k) (flat R (take (room - k) vs))
-  unfolding put_all put_next flat
-  all-flat room xs k [] = rw (take-nil (room - k))
-  all-flat room xs k (v ∷ vs) = by_room (ltb k room) refl (all-flat room (put_row R xs k v) (suc k) vs)
-    where
-      by_room : (t : Bool) → ltb k room ≡ t
-          → put_all R room (put_row R xs k v) (suc k) vs ≡ sets (put_row R xs k v) (R.width * suc k) (flat R (take (room - suc k) vs))
-          → put_all R room xs k (v ∷ vs) ≡ sets xs (R.width * k) (flat R (take (room - k) (v ∷ vs)))
-      by_room true q more =
-          let h : k < room = ltb-true k room q in
-          let e : room - k ≡ suc (room - suc k) = omega arith in
-          let s = sets_flat R xs k v (take (room - suc k) vs) in
-          rw (q, e) (more ∙ ap (λ (n : ℕ). sets (put_row R xs k v) (R.width * n) (flat R (take (room - suc k) vs))) (sym (add-one k)) ∙ sym s)
-      by_room false q more =
-          let h : room ≤ k = ltb-false k room q in
-          let e : room - k ≡ 0 = omega arith in
-          rw (e, q) (all-full room xs (suc k) vs (omega arith))
-
-  -- all from the front, where there is room
-  pub all-front : (room : ℕ) (xs : List ℤ) (vs : List A) → length vs ≤ room → R.width * room ≤ length xs → put_all R room xs 0 vs ≡ front R xs vs
-  all-front room xs vs h l =
-      all-flat room xs 0 vs
-      ∙ ap (λ (l : List A). sets xs (R.width * 0) (flat R l)) (ap (λ (k : ℕ). take k vs) (sub-zero room) ∙ take_all room vs h)
-      ∙ sets_front R xs vs (omega (arith, mul-le-mul_left R.width h))
 
 -- ---- rows that come after rows
 
@@ -101,14 +65,6 @@ module _
     {A : Type 0} {R : Kind A} {room : ℕ} {xs₀ : List ℤ} {count₀ : ℕ} {all : List A} {xs : List ℤ} {count : ℕ} {rest : List A}
     (c : Coming R room xs₀ count₀ all xs count rest)
   where
-    pub coming-step : {vs more : List A} {r : ℕ} {ys : List ℤ} → rest ≡ vs ++ more → Added R room count xs vs r ys → Coming R room xs₀ count₀ all ys r more
-    coming-step {vs} {more} e a =
-        record {
-          number = rw a.number (omega (arith, c.number, ap length e, length-append vs more));
-          list = rw (a.number, a.list) (sym (all_append R room xs count vs more) ∙ ap (put_all R room xs count) (sym e) ∙ c.list);
-          kept = rw a.list (length-all R room xs count vs ∙ c.kept);
-        }
-
     pub coming-none : rest ≡ [] → Added R room count₀ xs₀ all count xs
     unfolding put_all
     coming-none e =

@@ -7,7 +7,7 @@ use Rattle.std.proofs.Common.{sym, inl, inr, ⊎_elim, arith, ltb-true, ltb-fals
 use Rattle.std.specs.Int.Signed.{lt_z, le_z}
 use Rattle.std.proofs.lemmas.Bool.{eqb-false}
 use Rattle.whole.specs.Order.{zz}
-use Rattle.whole.specs.Test.{of_true, lt_of, lt_not, le_of, le_not_of, eq_z}
+use Rattle.whole.specs.Test.{eq_z}
 
 -- the test t decides the sentence P
 pub data Decides (P : Type 0) : Bool → Type 0 where
@@ -21,14 +21,6 @@ holds (no f) p = absurd (f p)
 pub fails : {P : Type 0} {t : Bool} → Decides P t → (P → ⊥) → t ≡ false
 fails (yes h) f = absurd (f h)
 fails (no f) g = refl
-
-pub when_true : {P : Type 0} {t : Bool} → Decides P t → t ≡ true → P
-when_true (yes h) e = h
-when_true (no f) e = absurd (of_true e)
-
-pub when_false : {P : Type 0} {t : Bool} → Decides P t → t ≡ false → P → ⊥
-when_false (yes h) e p = of_true (sym e)
-when_false (no f) e p = f p
 
 pub test_is : {P : Type 0} {t : Bool} → Decides P t → (T t ↔ P)
 test_is (yes h) = (λ u. h, λ p. tt)
@@ -72,25 +64,6 @@ pub unless : {P Q : Type 0} {a b : Bool} → Decides P a → Decides Q b → Dec
 unless (yes p) d = no (λ h. h.0 p)
 unless (no f) (yes q) = yes (f, q)
 unless (no f) (no g) = no (λ h. g h.1)
-
--- ---- whole numbers
-
-pub lt? : (a b : ℤ) → Decides (a <ℤ b) (lt_z a b)
-lt? a b = go (lt_z a b) refl
-  where
-    go : (t : Bool) → lt_z a b ≡ t → Decides (a <ℤ b) t
-    go true e = yes (lt_of e)
-    go false e = no (λ h. omega (zz, lt_not {a = a} {b = b} e))
-
-pub le? : (a b : ℤ) → Decides (a ≤ℤ b) (le_z a b)
-le? a b = go (le_z a b) refl
-  where
-    go : (t : Bool) → le_z a b ≡ t → Decides (a ≤ℤ b) t
-    go true e = yes (le_of e)
-    go false e = no (λ h. omega (zz, le_not_of {a = a} {b = b} e))
-
-pub same? : (a b : ℤ) → Decides (a ≡ b) (eq_z a b)
-same? a b = said (λ h. omega (zz, h.0, h.1)) (λ e. (omega zz, omega zz)) (and (le? a b) (le? b a))
 
 -- ---- natural numbers
 

@@ -24,5 +24,3 @@ pub mod AppendLaws
 pub mod Pass
 pub mod PassLaws
 pub mod Distinct
-pub mod DistinctLaws
-pub mod Examples

@@ -5,7 +5,7 @@ use native.Mathlib.Nat.{sub-zero}
 use native.Mathlib.Omega.{arith}
 use borrow.Author.Rules.{rules}
 use Rattle.whole.specs.Kind.{rows_from}
-use Rattle.whole.specs.KindLaws.{rows_step, rows-done}
+use Rattle.whole.proofs.KindLaws.{rows_step, rows-done}
 use Rattle.split.specs.Marks.{marks as mark_rows}
 use Rattle.apply.specs.Answer.{names, in_order}
 use Rattle.apply.proofs.Ordered.{not_named, not_led, ordered-later, none_unordered}

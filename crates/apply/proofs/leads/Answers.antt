@@ -3,7 +3,7 @@ use mathlib.Core.Path.{sym, ap, ap₂, ◌∙◌}
 use Prim.Native.Nat.{◌+◌}
 use native.Mathlib.Omega.{arith}
 use Rattle.whole.specs.Kind.{row_at}
-use Rattle.whole.specs.KindLaws.{rows_step, rows-done}
+use Rattle.whole.proofs.KindLaws.{rows_step, rows-done}
 use Rattle.split.specs.Marks.{marks}
 use Rattle.apply.specs.Answer.{leads, earlier}
 use borrow.Author.Rules.{rules}

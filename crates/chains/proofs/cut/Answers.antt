@@ -10,7 +10,7 @@ use lib.ListN.{length, take, drop}
 use lib.Seq.{length-sets}
 use lib.Signed.{lt_z}
 use Rattle.whole.specs.Kind.{flat}
-use Rattle.whole.specs.KindLaws.{length_put}
+use Rattle.whole.proofs.KindLaws.{length_put}
 use Rattle.geom.specs.Rows.{segments}
 use Rattle.split.specs.Chain.{columns, chain_from, pieces_from}
 use Rattle.chains.specs.Steps.{points, pieces_to, taken}

@@ -4,7 +4,7 @@ use mathlib.Core.List.{◌∷◌}
 use Prim.Native.Nat.{◌+◌, ◌-◌}
 use native.Mathlib.Omega.{arith}
 use lib.ListN.{length}
-use Rattle.whole.specs.KindLaws.{length_put}
+use Rattle.whole.proofs.KindLaws.{length_put}
 use Rattle.geom.specs.Rows.{segments}
 use Rattle.chains.specs.Steps.{pieces_to, taken}
 use Rattle.chains.proofs.Points.{taken_step, taken_none}

@@ -1,6 +1,6 @@
 -- `pairs::cross` meets its contract: the tests are the definition's, and segments that pass the first are on the grid.
 use mathlib.Core.Path.{sym, ◌∙◌}
-use Rattle.whole.specs.Test.{and_l, and_r}
+use Rattle.whole.proofs.TestLaws.{and_l, and_r}
 use Rattle.geom.specs.Plane.{grid_segment}
 use Rattle.geom.specs.Tests.{when_true}
 use Rattle.geom.proofs.TestsLaws.{grid_segment?}

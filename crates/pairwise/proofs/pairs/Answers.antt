@@ -6,7 +6,8 @@ use Prim.Native.Nat.{◌+◌, ◌-◌, ◌*◌, ◌≤◌}
 use native.Mathlib.Nat.{sub-zero}
 use native.Mathlib.Omega.{arith}
 use lib.ListN.{length}
-use Rattle.whole.specs.AppendLaws.{coming-all, coming-step, coming-none, coming-under}
+use Rattle.whole.specs.AppendLaws.{coming-all, coming-none, coming-under}
+use Rattle.whole.proofs.AppendLaws.{coming-step}
 use Rattle.whole.specs.Kind.{rows_from}
 use Rattle.geom.specs.Rows.{segments}
 use Rattle.split.specs.Look.{look}

@@ -6,7 +6,7 @@ use borrow.Author.Rules.{sfits_of}
 use lib.ListN.{length}
 use mir.Syntax.{w32}
 use Rattle.whole.specs.Kind.{row_at, put_row}
-use Rattle.whole.specs.KindLaws.{length_put}
+use Rattle.whole.proofs.KindLaws.{length_put}
 use Rattle.geom.specs.Rows.{segments}
 use Rattle.segm.specs.Forward.{forward}
 use Rattle.steps.proofs.Least.{countable}

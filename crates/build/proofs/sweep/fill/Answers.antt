@@ -5,7 +5,7 @@ use Prim.Native.Nat.{ℕ, ◌*◌, ◌≤◌}
 use native.Mathlib.Omega.{arith}
 use lib.ListN.{length, length-replicate}
 use Rattle.whole.specs.Kind.{rows_from}
-use Rattle.whole.specs.KindLaws.{length-rows}
+use Rattle.whole.proofs.KindLaws.{length-rows}
 use Rattle.geom.specs.Rows.{segments}
 use Rattle.faults.specs.Faults.{some, is_off, is_point}
 use Rattle.build.specs.Fill.{is_short, is_bad, swept, fill_said}

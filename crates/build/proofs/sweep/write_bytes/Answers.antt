@@ -10,7 +10,7 @@ use mir.Val.{SFits}
 use borrow.Author.Rules.{rules, sfits_of}
 use Rattle.whole.specs.Fit.{sum_fits}
 use Rattle.whole.specs.Kind.{rows_from}
-use Rattle.whole.specs.KindLaws.{rows_step, rows-done}
+use Rattle.whole.proofs.KindLaws.{rows_step, rows-done}
 use Rattle.geom.specs.declared.Segment.{Segment}
 use Rattle.geom.specs.Rows.{segments}
 use Rattle.scan.specs.declared.sums.Sums.{Sums}

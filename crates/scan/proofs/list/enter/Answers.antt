@@ -2,8 +2,10 @@
 use mathlib.Core.Path.{◌≡◌, sym, ap, ◌∙◌}
 use Prim.Native.Nat.{◌+◌, ◌-◌}
 use native.Mathlib.Omega.{arith}
-use Rattle.whole.specs.AppendLaws.{coming-all, coming-step, coming-none}
-use Rattle.whole.specs.Sum.{keep, keep-yes, keep_no}
+use Rattle.whole.specs.AppendLaws.{coming-all, coming-none}
+use Rattle.whole.proofs.AppendLaws.{coming-step}
+use Rattle.whole.specs.Sum.{keep}
+use Rattle.whole.proofs.SumLaws.{keep-yes, keep_no}
 use Rattle.edges.specs.Below.{live}
 use Rattle.scan.specs.Scan.{segment_at, entry_of, entries_from, live_at}
 use Rattle.scan.proofs.Entries.{entries-step, entries-done}

@@ -8,7 +8,7 @@ use mir.Syntax.{w32}
 use mir.Val.{SFits}
 use borrow.Author.Rules.{sfits_of}
 use Rattle.whole.specs.Kind.{rows_from}
-use Rattle.whole.specs.KindLaws.{rows_step, rows-done}
+use Rattle.whole.proofs.KindLaws.{rows_step, rows-done}
 use Rattle.geom.specs.declared.Segment.{Segment}
 use Rattle.geom.specs.Plane.{Side, subject, clip}
 use Rattle.edges.specs.Below.{below}

@@ -3,9 +3,9 @@
 use mathlib.Core.Path.{refl, sym, ◌∙◌}
 use native.Mathlib.Omega.{arith}
 use Rattle.whole.specs.Distinct.{distinct, differing}
-use Rattle.whole.specs.DistinctLaws.{distinct-first}
+use Rattle.whole.proofs.DistinctLaws.{distinct-first}
 use Rattle.whole.specs.Kind.{row_at, flat, rows_from, front}
-use Rattle.whole.specs.PassLaws.{going-first, going_skip, going_put, done}
+use Rattle.whole.proofs.PassLaws.{going-first, going_skip, going_put, done}
 use Rattle.geom.specs.Tests.{when_true}
 use Rattle.split.specs.Marks.{marks as rows}
 use Rattle.split.specs.Look.{same_mark}

@@ -7,11 +7,12 @@ use mathlib.Core.List.{List, [], ◌∷◌, ◌++◌}
 use Rattle.whole.specs.Total.{Total}
 use Rattle.whole.specs.Decide.{Decides, yes, no}
 use Rattle.whole.specs.Sorting.{Low, Sorted}
-use Rattle.whole.specs.Sum.{All, none, also, all_map, Pairs, no_pair, pair}
+use Rattle.whole.specs.Sum.{All, none, also, Pairs, no_pair, pair}
+use Rattle.whole.proofs.SumLaws.{all_map}
 use Rattle.whole.specs.Kind.{Kind, row_at, rows_from}
 use Rattle.whole.specs.Pass.{pass}
 use Rattle.whole.specs.Distinct.{differing, distinct}
-use Rattle.whole.specs.KindLaws.{rows_step}
+use Rattle.whole.proofs.KindLaws.{rows_step}
 
 pub distinct-first : {A : Type 0} (R : Kind A) (same : A → A → Bool) (s : List ℤ) (m : ℕ) → 0 < m
     → distinct same (rows_from R s 0 m) ≡ row_at R s 0 ∷ pass (differing same) (row_at R s 0) (rows_from R s 1 (m - 1))

@@ -4,27 +4,35 @@ use Rattle.std.proofs.Common.{◌∙◌, ap, ap₂, arith, SFits, to_z, of_z}
 use Rattle.std.specs.Int.Signed.{mag, lt_z, le_z}
 use Rattle.std.specs.Int.{w32, w64}
 use Rattle.whole.specs.Order.{zz, zc, add_is, sub_is}
-use Rattle.whole.specs.Ring.{ring, reads}
-use Rattle.whole.specs.Compare.{in≤, out≤}
-use Rattle.whole.specs.Sign.{mul_nonneg, mul_mono, cancel_le, same}
+use Rattle.whole.specs.Ring.{reads}
+use Rattle.whole.proofs.RingLaws.{ring}
+use Rattle.whole.proofs.CompareLaws.{in≤, out≤}
+use Rattle.whole.specs.Sign.{same}
+use Rattle.whole.proofs.SignLaws.{mul_nonneg, mul_mono, cancel_le}
 use Rattle.whole.specs.Fit.{apart, abs-mul-lt, fits-abs}
-use Rattle.whole.specs.Test.{tests, lt_of, eq_z}
-use Rattle.whole.specs.Decide.{Decides, both, lt?, le?}
+use Rattle.whole.specs.Test.{tests, eq_z}
+use Rattle.whole.proofs.TestLaws.{lt_of}
+use Rattle.whole.specs.Decide.{Decides, both}
+use Rattle.whole.proofs.DecideLaws.{lt?, le?}
 use Rattle.whole.specs.Words.{below}
-use Rattle.whole.specs.Sum.{Pairs, Sum, keep, sum-append, sum-scale, sum-sub, sum-map, sum-perm, sum_const, sum-swap, sum-split, all_of}
+use Rattle.whole.specs.Sum.{Pairs, Sum, keep, sum_const}
+use Rattle.whole.proofs.SumLaws.{sum-append, sum-scale, sum-sub, sum-map, sum-perm, sum-swap, sum-split, all_of}
 use Rattle.whole.specs.Total.{Total}
-use Rattle.whole.specs.Sorting.{Perm, Sorted, sort, unique, is_sort, sort-perm, sort_sorted, sort-length, insert}
+use Rattle.whole.specs.Sorting.{Perm, Sorted, sort, insert}
+use Rattle.whole.proofs.SortingLaws.{unique, is_sort, sort-perm, sort_sorted, sort-length}
 use Rattle.whole.specs.Swap.{swap, swap-perm}
 use Rattle.whole.specs.Lex.{lex, pick, lex-order, whole}
 use Rattle.whole.specs.Rows as rows
 use Rattle.whole.specs.Kind.{Kind, row_at, put_row, flat, rows_from, front}
-use Rattle.whole.specs.KindLaws.{length-rows, length_front}
-use Rattle.whole.specs.KindSort.{by_numbers, sorted_front}
+use Rattle.whole.proofs.KindLaws.{length-rows, length_front}
+use Rattle.whole.specs.KindSort.{by_numbers}
+use Rattle.whole.proofs.KindSortLaws.{sorted_front}
 use Rattle.whole.specs.Pass.{pass}
 use Rattle.whole.specs.Distinct.{distinct}
-use Rattle.whole.specs.DistinctLaws.{distinct_apart}
+use Rattle.whole.proofs.DistinctLaws.{distinct_apart}
 use Rattle.whole.specs.Append.{put_all, Added}
-use Rattle.whole.specs.AppendLaws.{added_more, all-front}
+use Rattle.whole.specs.AppendLaws.{added_more}
+use Rattle.whole.proofs.AppendLaws.{all-front}
 
 -- ---- identities: the turn of three points, over 0 where the third lies left of the way from the first to the second
 

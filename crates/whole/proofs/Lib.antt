@@ -1,0 +1,13 @@
+pub mod AppendLaws
+pub mod CompareLaws
+pub mod DecideLaws
+pub mod DistinctLaws
+pub mod Examples
+pub mod KindLaws
+pub mod KindSortLaws
+pub mod PassLaws
+pub mod RingLaws
+pub mod SignLaws
+pub mod SortingLaws
+pub mod SumLaws
+pub mod TestLaws
