@@ -68,21 +68,3 @@ fill_said work n fill rule scan masks =
     (cond (some is_off L) (said 3 scan masks)
     (cond (some is_point L) (said 4 scan masks)
     (cond (some has_least L) (said 5 scan masks) r))))
-
--- ---- the number settles the case
-
-case_of : ℕ → Filled
-case_of k = cond (eqb k 11) ScanFull (get_or (Done ∷ Short ∷ BadRule ∷ OffGrid ∷ NoLength ∷ BadCount ∷ []) k Done)
-
-case_is : (r : Filled) → case_of (number_of r) ≡ r
-unfolding case_of
-case_is Done = refl
-case_is Short = refl
-case_is BadRule = refl
-case_is OffGrid = refl
-case_is NoLength = refl
-case_is BadCount = refl
-case_is ScanFull = refl
-
-pub one_case : (r s : Filled) → number_of r ≡ number_of s → r ≡ s
-one_case r s e = sym (case_is r) ∙ ap case_of e ∙ case_is s

@@ -10,7 +10,8 @@ use Rattle.geom.specs.declared.Point.{Point}
 use Rattle.geom.specs.declared.Segment.{Segment}
 use Rattle.geom.specs.Plane.{sign_of, side_of, against}
 use Rattle.plane.specs.Apart.{o₁, o₂}
-use Rattle.plane.specs.Meeting.{Sign, under, level, over, sign, Parted}
+use Rattle.plane.specs.Meeting.{Sign, under, level, over, Parted}
+use Rattle.plane.proofs.MeetingLaws.{sign}
 use Rattle.cross.specs.declared.answer.Crossing.{Crossing}
 use Rattle.cross.specs.declared.answer.Crossing.TheVariants.{Nothing}
 use Rattle.cross.specs.declared.answer.Kind.TheVariants.{TargetEnd, OtherEnd}

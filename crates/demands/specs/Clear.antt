@@ -6,23 +6,17 @@ use Rattle.geom.specs.declared.Segment.{Segment}
 use Rattle.plane.specs.NoEnd.{NoEnd}
 use Rattle.split.specs.declared.answer.Mark.{Mark}
 use Rattle.split.specs.Look.{mark}
-use Rattle.split.specs.LookLaws.{Cuts, here, there, cut-number}
+use Rattle.split.specs.LookLaws.{Cuts, here, there}
+use Rattle.split.proofs.LookLaws.{cut-number}
 
 -- m against a list whose first segment is number i
 pub data Clear : ℕ → List Segment → Mark → Type 0 where
   end : {i : ℕ} {m : Mark} → Clear i [] m
   step : {i : ℕ} {v : Segment} {L : List Segment} {m : Mark} → (m.segment ≡ pos i → NoEnd v m.point) → Clear (suc i) L m → Clear i (v ∷ L) m
 
-other-number : (k i : ℕ) (z : ℤ) → k ≢ i → z ≡ pos k → z ≡ pos i → ⊥
+pub other-number : (k i : ℕ) (z : ℤ) → k ≢ i → z ≡ pos k → z ≡ pos i → ⊥
 other-number k i z n e f = n (cc)
 
-past : (i j : ℕ) (p : Point) (L : List Segment) → i < j → Clear j L (mark i p)
+pub past : (i j : ℕ) (p : Point) (L : List Segment) → i < j → Clear j L (mark i p)
 past i j p [] h = end
 past i j p (v ∷ L) h = step (λ e. absurd (other-number i j (pos i) (λ z. omega arith) refl e)) (past i (suc j) p L (omega arith))
-
--- THE LAW
-pub clear_of : {i : ℕ} {L : List Segment} {m : Mark} → Cuts i L m → Clear i L m
-clear_of {i} (here {L = L} {p = p} g h) = step (λ e. h) (past i (suc i) p L (omega arith))
-clear_of {i} {m = m} (there c) =
-    let r = cut-number c in
-    step (λ e. absurd (other-number (suc i + r.k) i m.segment (λ z. omega arith) r.is e)) (clear_of c)

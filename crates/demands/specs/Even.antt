@@ -10,9 +10,9 @@ use Rattle.segm.specs.Forward.{forward, sorted}
 use Rattle.segm.specs.Merge.{merged}
 use Rattle.segm.specs.Balance.{Balanced, closed}
 use Rattle.split.specs.Look.{look, tidy}
-use Rattle.laws.specs.Steps.{keeps}
-use Rattle.laws.specs.Prepared.{∂-forward, ∂-sorted, ∂-merging}
-use Rattle.laws.specs.Cuts.{split-balanced}
+use Rattle.laws.proofs.StepsLaws.{keeps}
+use Rattle.laws.proofs.Prepared.{∂-forward, ∂-sorted, ∂-merging}
+use Rattle.laws.proofs.Cuts.{split-balanced}
 use Rattle.overlay.specs.Looks.{radius}
 use Rattle.demands.specs.Chain.{start, cut, next, Looks, empty, done, again}
 
@@ -27,31 +27,3 @@ pub record AllEven (L : List Segment) (Ls : List (List Segment)) (K : List Segme
   pub split : All (λ M. Even (cut M)) Ls
   pub merged : All (λ M. Even (next M)) Ls
   pub final : Even K
-
-turned_even : (L : List Segment) → Even L → Even (map forward L)
-turned_even L h d = keeps (count d) (count d) L (map forward L) (λ φ. sym (∂-forward d φ L)) (h d)
-
-merged_even : (L : List Segment) → Even L → Even (merged (sorted L))
-merged_even L h d = keeps (count d) (count d) L (merged (sorted L)) (λ φ. sym (∂-merging d φ (sorted L) ∙ ∂-sorted d φ L)) (h d)
-
-cut_even : (L : List Segment) → Even L → Even (cut L)
-cut_even L h d = (split-balanced d (tidy (look radius L)) L).0 (h d)
-
-looks_even : {L K : List Segment} {Ls : List (List Segment)} → Looks L Ls K → Even L → All Even Ls × Even K
-looks_even empty h = (none, h)
-looks_even (done n e) h = (also h none, h)
-looks_even {L} (again n k) h = let r = looks_even k (merged_even (cut L) (cut_even L h)) in (also h r.0, r.1)
-
--- THE THEOREM
-pub all_even : {L K : List Segment} {Ls : List (List Segment)} → Looks (start L) Ls K → Even L → AllEven L Ls K
-unfolding Balanced
-all_even {L} c h =
-    let t = turned_even L (λ d p. cc (h d p)) in
-    let r = looks_even c (merged_even (map forward L) t) in
-    record {
-      turned = t;
-      looked = r.0;
-      split = all_map cut_even r.0;
-      merged = all_map (λ M k. merged_even (cut M) (cut_even M k)) r.0;
-      final = r.1;
-    }

@@ -8,7 +8,6 @@ pub mod Refusals
 pub mod Even
 pub mod Clear
 pub mod Once
-pub mod Lengths
 pub mod Pieces
 pub mod Ordered
 pub mod Settled

@@ -29,37 +29,19 @@ times x ps = sum (at x) ps
 abbrev pub Once : List Point → Type 0
 Once ps = (x : Point) → times x ps ≤ 1
 
-at_same : {x p : Point} → x ≡ p → at x p ≡ 1
+pub at_same : {x p : Point} → x ≡ p → at x p ≡ 1
 at_same {x} {p} e = rw (holds (same_point? x p) e)
 
-at_other : {x p : Point} → x ≢ p → at x p ≡ 0
-at_other {x} {p} n = rw (refuted (same_point? x p) n)
-
--- ---- different points
-
-absent : (x : Point) {ps : List Point} → All (λ p. x ≢ p) ps → times x ps ≡ 0
-absent x none = refl
-absent x (also n h) = omega (arith, at_other n, absent x h)
-
-pub once : {ps : List Point} → Pairs ◌≢◌ ps → Once ps
-once no_pair x = omega arith
-once (pair {t = p} {L = ps} h k) x = go (same_point? x p) (once k x)
-  where
-    go : {b : Bool} → Decides (x ≡ p) b → times x ps ≤ 1 → cond b 1 0 + times x ps ≤ 1
-    go (yes e) m = let z = absent x (all_map (λ q n. λ f. n (sym e ∙ f)) h) in omega arith
-    go (no n) m = omega arith
-
 -- ---- the chain holds what the marks hold
-
 module _ (f : Point → ℕ) where
   abbrev whole : List (List Point) → ℕ
   whole gs = sum (λ g. sum f g) gs
 
-  sum-turned : (g r : List Point) → sum f (reverse_aux g r) ≡ sum f g + sum f r
+  pub sum-turned : (g r : List Point) → sum f (reverse_aux g r) ≡ sum f g + sum f r
   sum-turned [] r = omega arith
   sum-turned (p ∷ g) r = omega (arith, sum-turned g (p ∷ r))
 
-  sum_added : (p : Point) (gs : List (List Point)) → whole (add_to p gs) ≡ f p + whole gs
+  pub sum_added : (p : Point) (gs : List (List Point)) → whole (add_to p gs) ≡ f p + whole gs
   unfolding add_to
   sum_added p [] = omega arith
   sum_added p ([] ∷ gs) = omega arith
@@ -68,60 +50,6 @@ module _ (f : Point → ℕ) where
       go : (b : Bool) → whole (cond b ((p ∷ q ∷ g) ∷ gs) ((p ∷ []) ∷ (q ∷ g) ∷ gs)) ≡ f p + whole ((q ∷ g) ∷ gs)
       go true = omega arith
       go false = omega arith
-
-  sum-columns : (ps : List Point) → whole (columns ps) ≡ sum f ps
-  unfolding columns
-  sum-columns [] = refl
-  sum-columns (p ∷ ps) = omega (arith, sum_added p (columns ps), sum-columns ps)
-
-  sum-chain : (p b : Point) (gs : List (List Point)) → sum f (chain_from p b gs) ≡ whole gs
-  unfolding chain_from
-  sum-chain p b [] = refl
-  sum-chain p b (g ∷ gs) = go (lt_z (next_y b gs) p.y.0) (λ q. sum-chain q b gs)
-    where
-      go : (t : Bool) → ((q : Point) → sum f (chain_from q b gs) ≡ whole gs) → sum f (cond t (reverse g) g ++ chain_from (last_of p (cond t (reverse g) g)) b gs) ≡ sum f g + whole gs
-      go true h = omega (arith, sum_of-append f (reverse g) (chain_from (last_of p (reverse g)) b gs), sum-turned g [], h (last_of p (reverse g)))
-      go false h = omega (arith, sum_of-append f g (chain_from (last_of p g) b gs), h (last_of p g))
-
-pub chain-perm : (v : Segment) (ps : List Point) → Perm (chain v ps) ps
-chain-perm v ps f = sum-chain f v.a v.b (columns ps) ∙ sum-columns f ps
-
--- so what every mark passes every point of the chain passes
-module _ (test : Point → Bool) where
-  abbrev fails : Bool → ℕ
-  fails b = cond b 0 1
-
-  abbrev failed : List Point → ℕ
-  failed ps = sum (λ p. fails (test p)) ps
-
-  none-failed : {ps : List Point} → All (λ p. test p ≡ true) ps → failed ps ≡ 0
-  none-failed none = refl
-  none-failed (also {t = p} e h) = let z : fails (test p) ≡ 0 = rw e in omega (arith, none-failed h)
-
-  all_passed : (ps : List Point) → failed ps ≡ 0 → All (λ p. test p ≡ true) ps
-  all_passed [] h = none
-  all_passed (p ∷ ps) h = also (passed (test p) (omega arith)) (all_passed ps (omega arith))
-    where
-      passed : (b : Bool) → fails b ≡ 0 → b ≡ true
-      passed true e = refl
-      passed false e = absurd (omega arith)
-
-  pub chain-all : (v : Segment) {ps : List Point} → All (λ p. test p ≡ true) ps → All (λ p. test p ≡ true) (chain v ps)
-  chain-all v {ps} h = all_passed (chain v ps) (chain-perm v ps (λ p. fails (test p)) ∙ none-failed h)
-
--- ---- from a over the marks to b
-
-pub from_a_to_b : (v : Segment) (ps : List Point) → v.a ≢ v.b → Pairs ◌≢◌ ps → All (NoEnd v) ps → Once (v.a ∷ (chain v ps ++ v.b ∷ []))
-from_a_to_b v ps n d h x = go (same_point? x v.a) (same_point? x v.b)
-  where
-    total : times x (v.a ∷ (chain v ps ++ v.b ∷ [])) ≡ at x v.a + (times x ps + at x v.b)
-    total = omega (arith, sum_of-append (at x) (chain v ps) (v.b ∷ []), chain-perm v ps (at x))
-
-    go : {a b : Bool} → Decides (x ≡ v.a) a → Decides (x ≡ v.b) b → times x (v.a ∷ (chain v ps ++ v.b ∷ [])) ≤ 1
-    go (yes e) k = omega (arith, total, at_same e, absent x (all_map (λ p m. λ f. m.not_a (sym f ∙ e)) h), at_other (λ f. n (sym e ∙ f)))
-    go (no m) (yes e) = omega (arith, total, at_other m, absent x (all_map (λ p k. λ f. k.not_b (sym f ∙ e)) h), at_same e)
-    go (no m) (no k) = omega (arith, total, at_other m, at_other k, once d x)
-
 -- two next to each other differ
 pub next_differs : (p q : Point) (ps : List Point) → Once (p ∷ q ∷ ps) → p ≢ q
 next_differs p q ps h e = let self : at p p ≡ 1 = at_same refl in omega (arith, h p, at_same e)

@@ -10,9 +10,9 @@ use Rattle.segm.specs.Forward.{forward, in_order, sorted}
 use Rattle.segm.specs.ForwardLaws.{forward-grid, forward_runs}
 use Rattle.segm.specs.Merge.{merged}
 use Rattle.segm.specs.Order.{EndsBefore}
-use Rattle.segm.specs.MergeLaws.{merged-ends, sorted_merged}
+use Rattle.segm.proofs.MergeLaws.{merged-ends, sorted_merged}
 use Rattle.demands.specs.Chain.{start, Looks, empty, done, again}
-use Rattle.demands.specs.Pieces.{Good, cut_is_good}
+use Rattle.demands.specs.Pieces.{Good}
 
 -- not refused by 3 and 4
 abbrev pub Fit : Segment → Type 0
@@ -21,22 +21,3 @@ Fit v = GridSegment v × (v.a ≢ v.b)
 pub record Ordered (L : List Segment) : Type 0 where
   pub good : All Good L
   pub strict : Pairs EndsBefore L
-
--- the same said of the two ends
-abbrev GoodEnds : Point → Point → Type 0
-GoodEnds p q = (GridPoint p × GridPoint q) × Before p q
-
-merged-ordered : {L : List Segment} → All Good L → Ordered (merged (sorted L))
-merged-ordered {L} h = record {
-  good = all_map (λ t e. (record { a = e.0.0; b = e.0.1 }, e.1)) (merged-ends GoodEnds (all-sort in_order (all_map (λ t g. ((g.0.a, g.0.b), g.1)) h)));
-  strict = sorted_merged L;
-}
-
-looks-ordered : {L K : List Segment} {Ls : List (List Segment)} → Looks L Ls K → Ordered L → All Ordered Ls × Ordered K
-looks-ordered empty h = (none, h)
-looks-ordered (done n e) h = (also h none, h)
-looks-ordered (again n k) h = let r = looks-ordered k (merged-ordered (cut_is_good h.good)) in (also h r.0, r.1)
-
--- THE THEOREM
-pub all-ordered : {L K : List Segment} {Ls : List (List Segment)} → Looks (start L) Ls K → All Fit L → All Ordered Ls × Ordered K
-all-ordered c h = looks-ordered c (merged-ordered (all-over forward (all_map (λ v f. (forward-grid v f.0, forward_runs v f.1)) h)))

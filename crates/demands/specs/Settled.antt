@@ -6,11 +6,12 @@ use Rattle.whole.proofs.SumLaws.{all_map, pairs_map}
 use Rattle.geom.specs.declared.Segment.{Segment}
 use Rattle.geom.specs.Order.{before-differ}
 use Rattle.geom.specs.Off.{Off, On, EndOf}
-use Rattle.plane.specs.Ends.{apart-ends}
+use Rattle.plane.proofs.Ends.{apart-ends}
 use Rattle.plane.specs.Pierce.{Different}
 use Rattle.segm.specs.Order.{EndsBefore, by_a, by_b}
 use Rattle.split.specs.Look.{look}
-use Rattle.split.specs.LookLaws.{Forward, look-settled}
+use Rattle.split.specs.LookLaws.{Forward}
+use Rattle.split.proofs.LookLaws.{look-settled}
 use Rattle.laws.specs.Settled.{Settled}
 use Rattle.overlay.specs.Looks.{radius}
 use Rattle.demands.specs.Chain.{Looks, empty, done, again}
@@ -27,14 +28,5 @@ different (by_b e h) s = before-differ h s.1
 runs : {L : List Segment} → Ordered L → All Forward L
 runs o = all_map (λ t g. g.1) o.good
 
-unmarked-settled : {L : List Segment} → look radius L ≡ [] → Ordered L → Settled L
+pub unmarked-settled : {L : List Segment} → look radius L ≡ [] → Ordered L → Settled L
 unmarked-settled {L} e o = let f = runs o in record { forward = f; apart = (look-settled radius L f (pairs_map (λ s t p q. different) f o.strict)).0 (cc) }
-
-pub looks-settled : {L K : List Segment} {Ls : List (List Segment)} → Looks L Ls K → Ordered K → Settled K
-looks-settled empty o = record { forward = none; apart = no_pair }
-looks-settled (done n e) o = unmarked-settled e o
-looks-settled (again n k) o = looks-settled k o
-
--- THE THEOREM: every two edges
-pub meet_at_ends : {L : List Segment} → Settled L → Pairs MeetAtEnds L
-meet_at_ends s = pairs_map (λ e f h k a P. apart-ends h k a) s.forward s.apart

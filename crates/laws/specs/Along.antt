@@ -20,7 +20,6 @@ use Rattle.edges.specs.Below.{alive}
 use Rattle.scan.specs.Masks.{bottom}
 use Rattle.laws.specs.Sides.{reaches, below_end, bottom-end}
 use Rattle.laws.specs.Points.{runs}
-use Rattle.laws.specs.Boundary.{region}
 use Rattle.laws.specs.Place.{Place, left_A, right-Z, left-S, right-E}
 use Rattle.laws.specs.Settled.{Settled, place_in}
 use Rattle.laws.specs.Below.{lower_at, bottom_is}
@@ -43,9 +42,6 @@ tally false q false u s h1 h2 h3 h4 = absurd (of_true (h3 refl))
 tally false false true true s h1 h2 h3 h4 = refl
 tally false false true false s h1 h2 h3 h4 = absurd (of_true (h4 refl))
 
-pub le_run : {p q : ℤ} → p <ℤ q → p ≤ℤ q
-le_run h = omega zz
-
 -- A + S = Z + E
 pub record Fair (e t : Segment) : Type 0 where
   pub equal : ind (lower_at t e) +ℤ ind (beneath e t.a) ≡ ind (below_end t e) +ℤ ind (beneath e t.b)
@@ -62,52 +58,7 @@ module _ (e t : Segment) (run : e.a.x.0 <ℤ e.b.x.0) (runs-t : t.a.x.0 ≤ℤ t
 
   abbrev u : Bool
   u = lt_z t.b.x.0 e.b.x.0
-
-  pub A_is : lower_at t e ≡ ((not p && q) && s)
-  unfolding lower_at alive
-  A_is = and_same (le_z t.a.x.0 e.a.x.0 && q) (λ h. left_A e t (le_run run) runs-t pl (le_of (and_l (le_z t.a.x.0 e.a.x.0) q h)) (lt_of (and_r (le_z t.a.x.0 e.a.x.0) q h)))
-      ∙ ap (λ c. (c && q) && s) (le_not t.a.x.0 e.a.x.0)
-
-  Z_is : below_end t e ≡ ((r && not u) && s)
-  unfolding below_end reaches
-  Z_is = and_same (r && le_z e.b.x.0 t.b.x.0) (λ h. right-Z e t (le_run run) runs-t pl (lt_of (and_l r (le_z e.b.x.0 t.b.x.0) h)) (le_of (and_r r (le_z e.b.x.0 t.b.x.0) h)))
-      ∙ ap (λ c. (r && c) && s) (le_not e.b.x.0 t.b.x.0)
-
-  S_is : beneath e t.a ≡ ((p && r) && s)
-  unfolding beneath
-  S_is = and_same (p && r) (λ h. left-S e t (le_run run) runs-t pl (lt_of (and_l p r h)) (lt_of (and_r p r h)))
-
-  E_is : beneath e t.b ≡ ((q && u) && s)
-  unfolding beneath
-  E_is = and_same (q && u) (λ h. right-E e t (le_run run) runs-t pl (lt_of (and_l q u h)) (lt_of (and_r q u h)))
-
-  pub fair : Fair e t
-  fair = record {
-    equal = rw (A_is, Z_is, S_is, E_is) (tally p q r u s
-        (λ h. let k = lt_of {a = e.a.x.0} {b = t.a.x.0} h in let z : e.a.x.0 <ℤ t.b.x.0 = omega zz in lt-true z)
-        (λ h. let k = lt_of {a = t.b.x.0} {b = e.b.x.0} h in let z : t.a.x.0 <ℤ e.b.x.0 = omega zz in lt-true z)
-        (λ h. let k = lt_not {a = e.a.x.0} {b = t.a.x.0} h in let z : t.a.x.0 <ℤ e.b.x.0 = omega zz in lt-true z)
-        (λ h. let k = lt_not {a = e.a.x.0} {b = t.b.x.0} h in let z : t.b.x.0 <ℤ e.b.x.0 = omega zz in lt-true z));
-  }
-
 -- ---- the sums
 -- the ends of t moved by g; the weights stay those of t
 abbrev pub moved : (Point → Point) → Segment → Segment
 moved g t = record { a = g t.a; b = g t.b; subject = t.subject; clip = t.clip }
-
--- e need not be in the list, and the list may be moved: it is enough that each is fair to e
-pub along : (w : Segment → ℤ) (L : List Segment) (e : Segment) (g : Point → Point) → Balanced w L → All (λ t. Fair e (moved g t)) L → Over w (λ t. lower_at (moved g t) e) L ≡ Over w (λ t. below_end (moved g t) e) L
-along w L e g bal fs =
-    omega (
-      zz,
-      region w L bal (λ q. beneath e (g q)),
-      over-two w (λ t. lower_at (moved g t) e) (λ t. beneath e (g t.a)) (λ t. below_end (moved g t) e) (λ t. beneath e (g t.b)) (all_map (λ t f. f.equal) fs),
-      add_is (Over w (λ t. lower_at (moved g t) e) L) (Over w (λ t. beneath e (g t.a)) L),
-      add_is (Over w (λ t. below_end (moved g t) e) L) (Over w (λ t. beneath e (g t.b)) L),
-    )
-
--- Req 13, first half
-pub both_ends : (w : Segment → ℤ) (L : List Segment) → Settled L → Balanced w L → (e : Segment) → In e L → e.a.x.0 <ℤ e.b.x.0 → bottom w L e ≡ bottom-end w L e
-unfolding bottom-end
-both_ends w L st bal e i run = bottom_is w L e (by_x run)
-    ∙ along w L e (λ q. q) bal (all_map (λ t h. fair e t run (runs h.0) h.1.0 h.1.1) (all_both st.forward (place_in i st.apart)))

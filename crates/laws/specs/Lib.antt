@@ -34,8 +34,6 @@ pub mod Ray
 pub mod Points
 pub mod Boundary
 pub mod Steps
-pub mod Prepared
-pub mod Cuts
 pub mod Place
 pub mod Settled
 pub mod Below
@@ -44,14 +42,10 @@ pub mod Mid
 pub mod Column
 pub mod Node
 pub mod Fan
-pub mod Upright
 pub mod Telescope
 pub mod Law
 pub mod Foot
 pub mod Beside
 pub mod Scale
 pub mod Level
-pub mod BesideUpright
 pub mod Moves
-pub mod Example
-pub mod Statements

@@ -14,7 +14,7 @@ use Rattle.whole.specs.Test.{lt-true, lt-false, le-true, le-false}
 use Rattle.whole.proofs.TestLaws.{eq_z-true}
 use Rattle.geom.specs.declared.Segment.{Segment}
 use Rattle.geom.specs.Plane.{turn}
-use Rattle.plane.specs.Turns.{turn_self, turn_end}
+use Rattle.plane.proofs.TurnsLaws.{turn_self, turn_end}
 use Rattle.plane.specs.Apart.{Apart, in_line_lem, off_e, off_f, at_ends, o₁, o₂}
 use Rattle.edges.specs.Below.{lean, lower}
 use Rattle.laws.specs.Points.{runs}

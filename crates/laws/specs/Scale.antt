@@ -9,7 +9,7 @@ use Rattle.whole.proofs.RingLaws.{ring}
 use Rattle.whole.proofs.SignLaws.{mul_pos}
 use Rattle.plane.specs.Scaled.{at, spot}
 use Rattle.plane.specs.Mean.{mean_on}
-use Rattle.plane.specs.Exactly.{apart_exactly}
+use Rattle.plane.proofs.ExactlyLaws.{apart_exactly}
 use Rattle.whole.proofs.TestLaws.{and_l, and_r, lt_of, le_of}
 use Rattle.geom.specs.declared.Segment.{Segment}
 use Rattle.geom.specs.Plane.{turn, against, Before}
@@ -19,7 +19,6 @@ use Rattle.plane.specs.Apart.{Apart}
 use Rattle.edges.specs.Below.{alive}
 use Rattle.laws.specs.Sides.{reaches}
 use Rattle.laws.specs.Along.{moved}
-use Rattle.laws.specs.Node.{no_factor}
 use Rattle.laws.specs.Foot.{le-scaled, lt-scaled}
 
 -- ---- a point that is an end of S lies on it
@@ -57,24 +56,16 @@ module _ (k : ℤ) (hk : pos 0 <ℤ k) where
   pub factor : (d p : ℤ) → d *ℤ (k *ℤ p) ≡ (k *ℤ d) *ℤ p
   factor d p = ring (k ∷ d ∷ p ∷ []) (search reads depth 20 fits 5000) tt
 
-  within : (d p q m : ℤ) → Within d (k *ℤ p) (k *ℤ q) m → Within (k *ℤ d) p q m
+  pub within : (d p q m : ℤ) → Within d (k *ℤ p) (k *ℤ q) m → Within (k *ℤ d) p q m
   within d p q m (rising h l) = rising (omega (zz, factor d p)) (omega (zz, factor d q))
   within d p q m (falling h l) = falling (omega (zz, factor d q)) (omega (zz, factor d p))
 
-  cross-down : (t : Segment) (Z : Off) → cross (scaled k t) Z ≡ k *ℤ cross t (down Z)
+  pub cross-down : (t : Segment) (Z : Off) → cross (scaled k t) Z ≡ k *ℤ cross t (down Z)
   unfolding cross
   cross-down t Z = ring (t.a.x.0 ∷ t.a.y.0 ∷ t.b.x.0 ∷ t.b.y.0 ∷ Z.X ∷ Z.Y ∷ Z.d ∷ k ∷ []) (search reads depth 40 fits 50000) tt
 
-  pub on_down : (t : Segment) (Z : Off) → On (scaled k t) Z → On t (down Z)
-  on_down t Z h = record {
-    wide = within Z.d t.a.x.0 t.b.x.0 Z.X h.wide;
-    high = within Z.d t.a.y.0 t.b.y.0 Z.Y h.high;
-    line = no_factor k hk (sym (cross-down t Z) ∙ h.line);
-  }
-
   pub pos_scaled : (c : ℤ) → lt_z (pos 0) (k *ℤ c) ≡ lt_z (pos 0) c
   pos_scaled c = ap (λ z. lt_z z (k *ℤ c)) (sym (*ℤ-zero k)) ∙ lt-scaled k (pos 0) c hk
-
 -- a point of d, against the scaled edge
 pub against-scaled : (t : Segment) (P : Off) → against (scaled P.d t) (spot P) ≡ P.d *ℤ cross t P
 unfolding turn cross

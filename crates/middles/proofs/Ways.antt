@@ -17,11 +17,12 @@ use Rattle.geom.specs.Plane.{GridSegment, point, upright}
 use Rattle.geom.specs.Tests.{Decides, holds, fails, same?}
 use Rattle.geom.proofs.TestsLaws.{upright?}
 use Rattle.plane.specs.Apart.{o₁}
-use Rattle.plane.specs.Quotients.{nearest, cut_reduced}
-use Rattle.plane.specs.Crossing.{upright-div, level-div}
+use Rattle.plane.specs.Quotients.{nearest}
+use Rattle.plane.proofs.QuotientsLaws.{cut_reduced}
+use Rattle.plane.proofs.CrossingLaws.{upright-div, level-div}
 use Rattle.middles.specs.Point.{level, cross_point}
 use Rattle.middles.specs.Middle.{Middle, Cut, Share}
-use Rattle.middles.specs.Boxes.{by_cut, by_nearest, parted-some}
+use Rattle.middles.proofs.Boxes.{by_cut, by_nearest, parted-some}
 use Rattle.middles.specs.Sizes.{divisor, width, height, share_near, divisor-near, width-near, height-near}
 use Rattle.middles.proofs.Steps.{parted-same, parted-less}
 

@@ -9,7 +9,6 @@ use Rattle.geom.specs.declared.Point.{Point}
 use Rattle.geom.specs.declared.Segment.{Segment}
 use Rattle.geom.specs.Plane.{Before, by_x, by_y, turn, against}
 use Rattle.geom.specs.Order.{Order, sooner, equal, later, order}
-use Rattle.plane.specs.Turns.{turn_self, turn_end}
 use Rattle.plane.specs.Pierce.{Inside}
 
 -- the step from p to q along e
@@ -71,10 +70,3 @@ dot-order e p q be h k = (λ d. go d (order p q), dot_before e p q be h k)
     go d (sooner l) = l
     go d (equal l) = let z : ⊥ = omega (zz, ap (λ (t : Point). dot e p t) (sym l) ∙ dot_self e p) in absurd z
     go d (later l) = let z : ⊥ = omega (zz, dot_before e q p be k h l, dot_back e p q, neg_is (dot e q p)) in absurd z
-
--- so p is strictly inside e exactly if the steps from e.a to p and from p to e.b both run along e
-pub inside_dots : (e : Segment) (p : Point) → Before e.a e.b → against e p ≡ pos 0 → Inside e p ↔ ((pos 0 <ℤ dot e e.a p) × (pos 0 <ℤ dot e p e.b))
-inside_dots e p be h =
-    let l = dot-order e e.a p be (turn_self e.a e.b) h in
-    let r = dot-order e p e.b be h (turn_end e.a e.b) in
-    (λ i. (l.1 i.after, r.1 i.ahead), λ d. record { after = l.0 d.0; ahead = r.0 d.1 })

@@ -8,7 +8,6 @@ pub mod Apart
 pub mod Scaled
 pub mod Turns
 pub mod Weights
-pub mod Ends
 pub mod Mean
 pub mod Meeting
 pub mod Pierce

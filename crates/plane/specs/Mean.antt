@@ -14,7 +14,7 @@ use Rattle.geom.specs.Order.{before_irr}
 use Rattle.plane.specs.Apart.{o₁, o₂}
 use Rattle.plane.specs.Scaled.{at, spot, of_is}
 use Rattle.plane.specs.Turns.{coords}
-use Rattle.plane.specs.Weights.{Weights, after_a, before_b}
+use Rattle.plane.specs.Weights.{Weights}
 
 pub record Mean (e : Segment) (P : Off) (u v : ℤ) : Type 0 where
   pub u_low : pos 0 ≤ℤ u
@@ -55,7 +55,7 @@ mean_on {e} {P} {u} {v} M = record {
 }
 
 -- ---- and strictly inside it, where both weights are over 0
-one_way : (u v X d m : ℤ) → d ≡ v +ℤ u → X ≡ m → (u +ℤ v) *ℤ X ≡ d *ℤ m
+pub one_way : (u v X d m : ℤ) → d ≡ v +ℤ u → X ≡ m → (u +ℤ v) *ℤ X ≡ d *ℤ m
 one_way u v X d m h k = ap (λ t. (u +ℤ v) *ℤ t) k ∙ id ∙ ap (λ t. t *ℤ m) (sym h)
   where
     id : (u +ℤ v) *ℤ m ≡ (v +ℤ u) *ℤ m
@@ -76,9 +76,6 @@ mean_weights {e} {P} {u} {v} M = record {
 pub record Inner (e : Segment) (P : Off) : Type 0 where
   pub left : Before (at P.d e.a) (spot P)
   pub right : Before (spot P) (at P.d e.b)
-
-pub mean-inner : {e : Segment} {P : Off} {u v : ℤ} → Before e.a e.b → Mean e P u v → pos 0 <ℤ u → pos 0 <ℤ v → Inner e P
-mean-inner be M h k = record { left = after_a (mean_weights M) be h; right = before_b (mean_weights M) be k }
 
 pub inner_no_end : {e : Segment} {P : Off} → Inner e P → ¬ EndOf e P
 inner_no_end {e} {P} i (inl h) = before_irr (subst (λ (t : Point). Before (at P.d e.a) t) (of_is h) i.left)

@@ -8,7 +8,6 @@ use Rattle.geom.specs.declared.Segment.{Segment}
 use Rattle.geom.specs.Plane.{Before, against}
 use Rattle.geom.specs.Order.{before_irr}
 use Rattle.plane.specs.Apart.{o₁, o₂}
-use Rattle.plane.specs.Turns.{turn_self, turn_end}
 use Rattle.plane.specs.Meeting.{Parted}
 use Rattle.plane.specs.Pierce.{Inside}
 
@@ -31,10 +30,3 @@ parted_no_zero (inr h) = record { first = omega zz; second = omega zz }
 -- p on the line of f, and neither end of e on it
 pub line_no_end : (e f : Segment) (p : Point) → NoZero (o₁ f e) (o₂ f e) → against f p ≡ pos 0 → NoEnd e p
 line_no_end e f p n h = record { not_a = λ z. n.first (ap (λ (t : Point). against f t) (sym z) ∙ h); not_b = λ z. n.second (ap (λ (t : Point). against f t) (sym z) ∙ h) }
-
--- so an end of f is no end of e
-pub a_no_end : (e f : Segment) → NoZero (o₁ f e) (o₂ f e) → NoEnd e f.a
-a_no_end e f n = line_no_end e f f.a n (turn_self f.a f.b)
-
-pub b_no_end : (e f : Segment) → NoZero (o₁ f e) (o₂ f e) → NoEnd e f.b
-b_no_end e f n = line_no_end e f f.b n (turn_end f.a f.b)

@@ -1,3 +1,2 @@
 -- In reading order: what sorted rows are; what callers know of them.
 pub mod Sorted
-pub mod SortedLaws

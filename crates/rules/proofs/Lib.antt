@@ -1,1 +1,2 @@
 pub mod Exclude
+pub mod KeepLaws

@@ -2,7 +2,7 @@
 use Rattle.std.specs.Prelude.{◌≡◌, List, ℕ, ℤ}
 use Rattle.std.proofs.Common.{sym, ap, ◌∙◌}
 use Rattle.overlay.specs.declared.answer.Answer.{Answer}
-use Rattle.overlay.specs.Numbers.{told_injective}
+use Rattle.overlay.proofs.NumbersLaws.{told_injective}
 use Rattle.overlay.specs.Outcome.{Lent, outcome}
 use Rattle.checks.specs.declared.Settings.{Settings}
 use Rattle.ending.specs.Lent.{ended}

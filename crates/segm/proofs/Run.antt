@@ -24,7 +24,7 @@ use Rattle.segm.specs.declared.Merged.{Merged}
 use Rattle.segm.specs.declared.Merged.TheVariants.{Joined, Same, TooBig}
 use Rattle.groups.specs.Group.{is_far, joint, alone, with_one, far_group, is_dropped, left}
 use Rattle.segm.specs.Merge.{same_ends, groups, merged, paired, too_big, answer_of, list_of}
-use Rattle.segm.specs.MergeLaws.{not_far}
+use Rattle.segm.proofs.MergeLaws.{not_far}
 use Rattle.segm.proofs.Still.{merging, far_on, paired_on, far-end, far-same, far-next, far-here, paired-end, paired_same, paired-next, pass-merged}
 
 -- ---- totals that are not outside fit 32 bits

@@ -39,7 +39,7 @@ use Rattle.steps.specs.Joining.{join_answer, join_list}
 use Rattle.overlay.specs.declared.answer.Answer.TheVariants.{WorkFull, TooBig as Big}
 use Rattle.overlay.specs.Looks.{Ran, refused, radius, joined}
 use Rattle.demands.specs.Chain.{cut}
-use Rattle.demands.specs.Pieces.{cut_is_good}
+use Rattle.demands.proofs.PiecesLaws.{cut_is_good}
 use Rattle.settle.specs.Kept.{Kept, Marked}
 use Rattle.settle.specs.Step.{split_at}
 use Rattle.settle.proofs.Sound.{clear, sound-near}

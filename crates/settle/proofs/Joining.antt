@@ -15,7 +15,7 @@ use Rattle.geom.specs.Limits.{work_room}
 use Rattle.geom.specs.Rows.{segments}
 use Rattle.segm.specs.Forward.{in_order, sorted}
 use Rattle.segm.specs.Merge.{merged, too_big}
-use Rattle.segm.specs.MergeLaws.{merged-length}
+use Rattle.segm.proofs.MergeLaws.{merged-length}
 use Rattle.steps.specs.declared.Joined.{Joined}
 use Rattle.steps.specs.declared.Joined.TheVariants.{Rows, TooBig}
 use Rattle.steps.specs.Joining.{join_answer, join_list}

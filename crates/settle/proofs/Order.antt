@@ -20,11 +20,12 @@ use Rattle.geom.specs.Plane.{GridSegment, before}
 use Rattle.geom.specs.Tests.{lt?, holds, fails}
 use Rattle.split.specs.declared.answer.Mark.{Mark}
 use Rattle.split.specs.Look.{look, tidy, mark_order, same_mark}
-use Rattle.split.specs.LookLaws.{Number, look_cuts, cut-number}
+use Rattle.split.specs.LookLaws.{Number}
+use Rattle.split.proofs.LookLaws.{look_cuts, cut-number}
 use Rattle.split.proofs.Tidying.{same_mark?}
 use Rattle.apply.specs.Answer.{names, earlier, leads, in_order}
 use Rattle.whole.proofs.DistinctLaws.{distinct-strict}
-use Rattle.demands.specs.Pieces.{mark-order, tidy-all}
+use Rattle.demands.proofs.PiecesLaws.{mark-order, tidy-all}
 use Rattle.overlay.specs.Looks.{radius}
 
 abbrev Later : Mark → Mark → Type 0

@@ -16,7 +16,7 @@ use Rattle.geom.proofs.TestsLaws.{same_point?, grid_segment?}
 use Rattle.segm.specs.Forward.{forward, in_order, sorted}
 use Rattle.segm.specs.ForwardLaws.{forward-grid, forward_runs}
 use Rattle.segm.specs.Merge.{merged, too_big}
-use Rattle.segm.specs.MergeLaws.{merged-ends, merged-near}
+use Rattle.segm.proofs.MergeLaws.{merged-ends, merged-near}
 use Rattle.faults.specs.Faults.{some, is_off, is_point, has_least}
 use Rattle.demands.specs.Pieces.{Good}
 use Rattle.settle.specs.Kept.{Sound}

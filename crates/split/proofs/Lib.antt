@@ -1,2 +1,4 @@
 -- Tidying.
 pub mod Tidying
+pub mod LookLaws
+pub mod NoEndLaws

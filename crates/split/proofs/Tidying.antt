@@ -17,7 +17,7 @@ use Rattle.geom.specs.declared.Point.{Point}
 use Rattle.geom.specs.Tests.{Decides, said, both, same?}
 use Rattle.geom.proofs.TestsLaws.{same_point?}
 use Rattle.rows.specs.Sorted.{fitting, in_order}
-use Rattle.rows.specs.SortedLaws.{fitting-true}
+use Rattle.rows.proofs.SortedLaws.{fitting-true}
 use Rattle.split.specs.declared.answer.Mark.{Mark}
 use Rattle.split.specs.Marks.{marks}
 use Rattle.split.specs.Look.{mark_order, same_mark, tidy}

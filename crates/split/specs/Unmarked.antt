@@ -12,12 +12,14 @@ use Rattle.geom.proofs.TestsLaws.{between?}
 use Rattle.plane.specs.Apart.{Apart}
 use Rattle.plane.specs.Meeting.{Meeting, touching, crossing as through}
 use Rattle.plane.specs.Pierce.{Different}
-use Rattle.plane.specs.Unmarked.{inside, some_inside, no_mark, unmarked, unmarked?}
+use Rattle.plane.specs.Unmarked.{inside, some_inside, no_mark, unmarked}
+use Rattle.plane.proofs.UnmarkedLaws.{unmarked?}
 use Rattle.cross.specs.declared.answer.Crossing.{Crossing}
 use Rattle.split.specs.declared.answer.Mark.{Mark}
 use Rattle.cross.specs.Cross.{inner}
 use Rattle.split.specs.Look.{mark, one, line_marks, kind_marks, cross_marks, pair_marks}
-use Rattle.cross.specs.Outcome.{Marked, both, on_other, on_target, Outcome, overlaid, nothing, marked, outcome}
+use Rattle.cross.specs.Outcome.{Marked, both, on_other, on_target, Outcome, overlaid, nothing, marked}
+use Rattle.cross.proofs.OutcomeLaws.{outcome}
 
 -- the test says whether there is no mark
 data NoMark : List Mark → Bool → Type 0 where

@@ -14,12 +14,12 @@ use Rattle.geom.specs.declared.Segment.{Segment}
 use Rattle.geom.specs.Limits.{segment_limit}
 use Rattle.geom.specs.Rows.{segments}
 use Rattle.rows.specs.Sorted.{fitting, in_order as rowsInOrder}
-use Rattle.rows.specs.SortedLaws.{fitting-true, in_order-kind}
+use Rattle.rows.proofs.SortedLaws.{fitting-true, in_order-kind}
 use Rattle.segm.specs.declared.Merged.{Merged}
 use Rattle.segm.specs.declared.Merged.TheVariants.{Joined, Same, Short, TooBig}
 use Rattle.segm.specs.Forward.{in_order, sorted}
 use Rattle.segm.specs.Merge.{merged, too_big, paired, merge_answer, merge_list, too_short}
-use Rattle.segm.specs.MergeLaws.{enough}
+use Rattle.segm.proofs.MergeLaws.{enough}
 use Rattle.steps.specs.declared.Joined.{Joined as Join}
 use Rattle.steps.specs.declared.Joined.TheVariants.{Rows, TooBig as Big}
 use Rattle.steps.specs.Joining.{join_answer, join_list}

@@ -13,7 +13,7 @@ use Rattle.geom.specs.Plane.{GridPoint, point}
 use Rattle.plane.specs.Apart.{o₁, o₂}
 use Rattle.plane.specs.Quotients.{nearest}
 use Rattle.middles.specs.Point.{cross_point}
-use Rattle.middles.specs.Boxes.{middle_on_grid}
+use Rattle.middles.proofs.Boxes.{middle_on_grid}
 use Rattle.middles.specs.Sizes.{divisor, width, height, divisor-near}
 use Rattle.middles.proofs.Ways.{share_x, share_y, slope_point}
 use Rattle.middles.proofs.on_slope.Goals as goal

@@ -6,7 +6,7 @@ use Rattle.geom.specs.declared.Coord.{Coord}
 use Rattle.geom.specs.Plane.{point}
 use Rattle.plane.specs.Apart.{o₁}
 use Rattle.middles.specs.Point.{cross_point}
-use Rattle.middles.specs.Boxes.{middle_on_grid}
+use Rattle.middles.proofs.Boxes.{middle_on_grid}
 use Rattle.middles.proofs.Ways.{upright-cut, upright-point}
 use Rattle.middles.proofs.on_upright.Goals as goal
 use Rattle.middles.proofs.on_upright.Goals.{Start}

@@ -8,7 +8,7 @@ use borrow.Author.Rules.{rules}
 use Rattle.whole.specs.Kind.{rows_from, front, flat}
 use Rattle.segm.specs.declared.Merged.{Merged}
 use Rattle.segm.specs.declared.Merged.TheVariants.{Short, Same}
-use Rattle.segm.specs.MergeLaws.{over_limit, no_room, enough, also-said}
+use Rattle.segm.proofs.MergeLaws.{over_limit, no_room, enough, also-said}
 use Rattle.segm.specs.Merge.{groups, merged, paired, any_far, merge_answer, merge_list, merge_says, merge_said}
 use Rattle.segm.proofs.merge.Goals as goal
 

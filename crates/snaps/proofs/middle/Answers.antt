@@ -8,7 +8,7 @@ use Rattle.geom.specs.Plane.{GridPoint}
 use Rattle.cross.specs.declared.answer.Crossing.{Crossing}
 use Rattle.cross.specs.declared.answer.Kind.TheVariants.{Pure}
 use Rattle.cross.specs.Cross.{found, cross_point, on_both, snapped, middle}
-use Rattle.middles.specs.Boxes.{middle_on_grid}
+use Rattle.middles.proofs.Boxes.{middle_on_grid}
 use Rattle.snaps.proofs.middle.Goals as goal
 use Rattle.snaps.proofs.middle.Goals.{After-cross_point-p}
 

@@ -24,12 +24,15 @@ use Rattle.laws.specs.Points.{runs}
 use Rattle.laws.specs.Place.{left_A, up_left_a}
 use Rattle.laws.specs.Settled.{Settled, Meets, meets_in, place_of}
 use Rattle.laws.specs.Below.{lower_at, lean_up, bottom_is}
-use Rattle.laws.specs.Along.{beneath, Fair, along}
-use Rattle.laws.specs.Column.{under-right, under_left, upto, columns}
-use Rattle.laws.specs.Node.{no_factor, upright-zero}
-use Rattle.laws.specs.Upright.{left_is_top}
+use Rattle.laws.specs.Along.{beneath, Fair}
+use Rattle.laws.proofs.AlongLaws.{along}
+use Rattle.laws.specs.Column.{under-right, under_left, upto}
+use Rattle.laws.proofs.ColumnLaws.{columns}
+use Rattle.laws.proofs.NodeLaws.{no_factor, upright-zero}
+use Rattle.laws.proofs.Upright.{left_is_top}
 use Rattle.laws.specs.Scale.{scaled, against-scaled, alive-scaled, reaches-scaled, alive_of, reaches_of}
-use Rattle.laws.specs.Level.{Level, Free, onto, pierced, bridge, none_right, none_left, at_point_lem, fair_to, seen_P, at_P}
+use Rattle.laws.specs.Level.{Level, Free, onto, bridge}
+use Rattle.laws.proofs.LevelLaws.{pierced, none_right, none_left, at_point_lem, fair_to, seen_P, at_P}
 
 module _ (e : Segment) (P : Off) (upr : e.a.x.0 ≡ e.b.x.0) where
   -- e's two ends, scaled, stand in one column

@@ -8,10 +8,12 @@ use Rattle.geom.specs.declared.Segment.{Segment}
 use Rattle.geom.specs.Plane.{OnGrid, GridPoint, GridSegment, point, upright}
 use Rattle.plane.specs.Apart.{o₁, o₂}
 use Rattle.plane.specs.Meeting.{Parted}
-use Rattle.plane.specs.Pierce.{crossed}
+use Rattle.plane.proofs.PierceLaws.{crossed}
 use Rattle.plane.specs.Round.{Rounded}
-use Rattle.plane.specs.Quotients.{nearest, rounded-cut, rounded-nearest}
-use Rattle.plane.specs.Crossing.{Span, up, down, InBoth, crossing_in_boxes}
+use Rattle.plane.specs.Quotients.{nearest}
+use Rattle.plane.proofs.QuotientsLaws.{rounded-cut, rounded-nearest}
+use Rattle.plane.specs.Crossing.{Span, up, down, InBoth}
+use Rattle.plane.proofs.CrossingLaws.{crossing_in_boxes}
 use Rattle.middles.specs.Point.{level, quotient, cross_point}
 use Rattle.middles.specs.Middle.{Middle}
 

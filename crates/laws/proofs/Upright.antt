@@ -23,9 +23,10 @@ use Rattle.laws.specs.Points.{then_upto, runs}
 use Rattle.laws.specs.Place.{up_left_a, up_left_b}
 use Rattle.laws.specs.Settled.{Settled, Meets, meets_in, place_of, only}
 use Rattle.laws.specs.Below.{lean_up, bottom_is}
-use Rattle.laws.specs.Column.{under-right, under_left, upto, columns}
-use Rattle.laws.specs.Node.{up_each, upright-zero}
-use Rattle.laws.specs.Fan.{no_shared}
+use Rattle.laws.specs.Column.{under-right, under_left, upto}
+use Rattle.laws.proofs.ColumnLaws.{columns}
+use Rattle.laws.proofs.NodeLaws.{up_each, upright-zero}
+use Rattle.laws.proofs.FanLaws.{no_shared}
 use Rattle.laws.specs.Foot.{u}
 
 module _ (e : Segment) (u : e.a.x.0 ≡ e.b.x.0) (up : e.a.y.0 <ℤ e.b.y.0) where
@@ -73,7 +74,6 @@ module _ (e : Segment) (u : e.a.x.0 ≡ e.b.x.0) (up : e.a.y.0 <ℤ e.b.y.0) whe
     where
       go : t.a.x.0 <ℤ e.b.x.0 → e.b.x.0 ≤ℤ t.b.x.0 → le_z (pos 0) (o₁ t e) ≡ lt_z (pos 0) (o₂ t e)
       go h k = let l = lean_up e t u up (omega zz) in up_left_a e t (omega zz) (runs ft) (place_of m).1 (omega zz) (omega zz) l ∙ sym (up_left_b e t (omega zz) (runs ft) (place_of m).1 h k l)
-
 -- Req 13, second half: the sum on the left side is the top
 pub left_is_top : (w : Segment → ℤ) (L : List Segment) → Settled L → Balanced w L → (e : Segment) → In e L → e.a.x.0 ≡ e.b.x.0 → e.a.y.0 <ℤ e.b.y.0 → left_side w L e ≡ top w L e
 unfolding left_side top

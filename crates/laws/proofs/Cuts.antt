@@ -13,8 +13,9 @@ use Rattle.segm.specs.Balance.{Balanced}
 use Rattle.split.specs.declared.answer.Mark.{Mark}
 use Rattle.split.specs.Chain.{points_of, chain, pieces_from, split_from, split}
 use Rattle.laws.specs.Boundary.{flow, ∂}
-use Rattle.laws.specs.Steps.{keeps, Carries, Chain, done, link, ∂-cut}
-use Rattle.laws.specs.Prepared.{forward_carries}
+use Rattle.laws.specs.Steps.{Carries, Chain, done, link}
+use Rattle.laws.proofs.StepsLaws.{keeps, ∂-cut}
+use Rattle.laws.proofs.Prepared.{forward_carries}
 
 module _ (d : Side) where
   -- the counts of v, from p to q

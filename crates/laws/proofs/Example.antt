@@ -15,10 +15,12 @@ use Rattle.scan.specs.Masks.{bottom, top}
 use Rattle.laws.specs.Edges.{running, standing, edges}
 use Rattle.laws.specs.Ray.{ray}
 use Rattle.laws.specs.Settled.{Settled, apart_from, settled, settled_of}
-use Rattle.laws.specs.Law.{sign_of_sides, sides_law}
-use Rattle.laws.specs.Beside.{Between, over, under, Beside, ray-over}
+use Rattle.laws.specs.Law.{sign_of_sides}
+use Rattle.laws.proofs.LawLaws.{sides_law}
+use Rattle.laws.specs.Beside.{Between, over, under, Beside}
+use Rattle.laws.proofs.BesideLaws.{ray-over}
 use Rattle.laws.specs.Level.{Across, right, left, Level}
-use Rattle.laws.specs.BesideUpright.{ray-right}
+use Rattle.laws.proofs.BesideUpright.{ray-right}
 
 -- ---- `Edges`
 is_settled : Settled edges

@@ -15,18 +15,22 @@ use Rattle.edges.specs.Below.{below, live}
 use Rattle.scan.specs.Masks.{bottom, top}
 use Rattle.laws.specs.Sides.{bottom-end, left_side}
 use Rattle.laws.specs.Ray.{ray}
-use Rattle.laws.specs.Boundary.{∂, balanced_is, region}
-use Rattle.laws.specs.Prepared.{prepared_balanced}
-use Rattle.laws.specs.Cuts.{split-balanced}
+use Rattle.laws.specs.Boundary.{∂}
+use Rattle.laws.proofs.BoundaryLaws.{balanced_is, region}
+use Rattle.laws.proofs.Prepared.{prepared_balanced}
+use Rattle.laws.proofs.Cuts.{split-balanced}
 use Rattle.laws.specs.Settled.{Settled}
-use Rattle.laws.specs.Along.{both_ends}
-use Rattle.laws.specs.Upright.{left_is_top}
-use Rattle.laws.specs.Law.{sign, sign_law, sign_of_sides, sides_law}
+use Rattle.laws.proofs.AlongLaws.{both_ends}
+use Rattle.laws.proofs.Upright.{left_is_top}
+use Rattle.laws.specs.Law.{sign, sign_of_sides}
+use Rattle.laws.proofs.LawLaws.{sign_law, sides_law}
 use Rattle.scan.specs.Live.{sweep}
-use Rattle.laws.specs.Beside.{Beside, ray-over, ray-under}
+use Rattle.laws.specs.Beside.{Beside}
+use Rattle.laws.proofs.BesideLaws.{ray-over, ray-under}
 use Rattle.laws.specs.Level.{Level}
-use Rattle.laws.specs.BesideUpright.{ray-right, ray-left}
-use Rattle.laws.specs.Moves.{Misses, ray_moves}
+use Rattle.laws.proofs.BesideUpright.{ray-right, ray-left}
+use Rattle.laws.specs.Moves.{Misses}
+use Rattle.laws.proofs.MovesLaws.{ray_moves}
 
 -- ---- balance
 
@@ -73,7 +77,6 @@ signs_of_sides : (r : ℤ → ℤ → ℤ) (L : List Segment) → Settled L → 
 signs_of_sides = sides_law
 
 -- ---- rays: the count of a ray from a point with no other edge between it and an edge e
-
 module _ (w : Segment → ℤ) (L : List Segment) (st : Settled L) (bal : Balanced w L) (e : Segment) (i : In e L) (P : Off) where
   -- over e it is the top of e, under e its bottom
   over-edge : Beside L e P → pos 0 <ℤ cross e P → ray w L P ≡ top w L e
@@ -89,7 +92,6 @@ module _ (w : Segment → ℤ) (L : List Segment) (st : Settled L) (bal : Balanc
 
     left_of_edge : P.X <ℤ (P.d *ℤ e.a.x.0) → ray w L P ≡ top w L e
     left_of_edge = ray-left w L st bal e i upright up P level
-
 -- the count is the same at two points, one right of the other, that a straight stretch joins which no edge meets; the list need not be settled
 between-points : (w : Segment → ℤ) (L : List Segment) → All (λ t. Before t.a t.b) L → Balanced w L → (P Q : Off) → (Q.d *ℤ P.X) <ℤ (P.d *ℤ Q.X) → All (Misses P Q) L → ray w L P ≡ ray w L Q
 between-points = ray_moves

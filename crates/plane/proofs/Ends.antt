@@ -13,7 +13,8 @@ use Rattle.geom.specs.Off.{Off, cross, On, Is, EndOf}
 use Rattle.geom.specs.Order.{before_irr, before-trans}
 use Rattle.plane.specs.Apart.{UpTo, OneSide, OneZero, o₁, o₂, Apart, in_line_lem, off_e, off_f, at_ends}
 use Rattle.plane.specs.Scaled.{at, is_of, before_at}
-use Rattle.plane.specs.Weights.{Weights, weights, is_a, is_b, first, last, key}
+use Rattle.plane.specs.Weights.{Weights}
+use Rattle.plane.proofs.WeightsLaws.{weights, is_a, is_b, first, last, key}
 
 -- ---- two turns p, q under weights u, v
 module _ (u v : ℤ) (u_low : pos 0 ≤ℤ u) (v_low : pos 0 ≤ℤ v) (some : pos 0 <ℤ (u +ℤ v)) (p q : ℤ) where

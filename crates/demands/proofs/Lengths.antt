@@ -10,14 +10,14 @@ use Rattle.geom.specs.declared.Segment.{Segment}
 use Rattle.geom.specs.Plane.{sameZ}
 use Rattle.geom.specs.Tests.{Decides, yes, no, fails, same?}
 use Rattle.segm.specs.Forward.{forward, in_order, sorted}
-use Rattle.segm.specs.MergeLaws.{merged-length}
+use Rattle.segm.proofs.MergeLaws.{merged-length}
 use Rattle.split.specs.declared.answer.Mark.{Mark}
 use Rattle.split.specs.Look.{look, tidy}
 use Rattle.split.specs.Chain.{points_of, chain, pieces_from, split_from}
 use Rattle.overlay.specs.Looks.{radius}
 use Rattle.demands.specs.Chain.{start, cut, next, Looks, empty, done, again}
 use Rattle.demands.specs.Exactly.{Allowed, rests, goes_on}
-use Rattle.demands.specs.Once.{chain-perm}
+use Rattle.demands.proofs.OnceLaws.{chain-perm}
 
 -- ---- the marks by the segments that they name, from number i on
 

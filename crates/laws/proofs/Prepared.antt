@@ -17,10 +17,11 @@ use Rattle.segm.specs.Forward.{forward, sorted}
 use Rattle.groups.specs.Group.{is_empty}
 use Rattle.segm.specs.Merge.{same_ends, plus, groups_from, merged_from, merged}
 use Rattle.segm.specs.Order.{order}
-use Rattle.segm.specs.MergeLaws.{same_ends?}
+use Rattle.segm.proofs.MergeLaws.{same_ends?}
 use Rattle.segm.specs.Balance.{Balanced}
 use Rattle.laws.specs.Boundary.{flow, ∂}
-use Rattle.laws.specs.Steps.{keeps, Carries, straight, ∂-each, ∂-merged, ∂-dropped, ∂-perm, turned_carries}
+use Rattle.laws.specs.Steps.{Carries, straight}
+use Rattle.laws.proofs.StepsLaws.{keeps, ∂-each, ∂-merged, ∂-dropped, ∂-perm, turned_carries}
 
 abbrev full : Segment → Bool
 full t = not (is_empty t)
@@ -102,7 +103,6 @@ module _ (d : Side) where
     -- all three: the list of the first look
     pub ∂-prepared : (L : List Segment) → D (merged (sorted (map forward L))) ≡ D L
     ∂-prepared L = ∂-merging (sorted (map forward L)) ∙ ∂-sorted (map forward L) ∙ ∂-forward L
-
   -- THE LAW
   pub prepared_balanced : (L : List Segment) → Balanced (count d) L ↔ Balanced (count d) (merged (sorted (map forward L)))
   prepared_balanced L =

@@ -1,0 +1,130 @@
+-- What answer 0 says of the outcome of a run: the checks 1 to 6 passed, the looks settled, and the work and mask lists begin with the edges and their bytes.
+use Rattle.std.specs.Prelude.{◌≡◌, Bool, not, cond, List, map, ◌≢◌, ℤ, eqb, ltb}
+use Rattle.std.proofs.Math.Path.{refl, sym, ap, ap₂}
+use Rattle.std.proofs.Common.{◌∙◌, subst, arith}
+use Rattle.std.proofs.Math.Bool.{true, false}
+use Prim.Native.Nat.{ℕ, zero, suc, ◌+◌, ◌-◌, ◌≤◌}
+use Rattle.std.proofs.Math.ListN.{length, take}
+use Rattle.std.proofs.lemmas.List.{length-map}
+use Rattle.std.proofs.Math.Seq.{take-append_seam}
+use Rattle.whole.specs.Kind.{rows_from}
+use Rattle.whole.proofs.KindLaws.{length-rows, rows-front}
+use Rattle.geom.specs.declared.Segment.{Segment}
+use Rattle.geom.specs.Limits.{work_room, mark_room, scan_room}
+use Rattle.geom.specs.Rows.{segments}
+use Rattle.segm.specs.Forward.{forward, sorted}
+use Rattle.segm.specs.Merge.{merged, too_big}
+use Rattle.split.specs.Look.{look, tidy}
+use Rattle.scan.specs.Masks.{byte_of, bytes, crowded}
+use Rattle.checks.specs.declared.Settings.{Settings}
+use Rattle.checks.specs.declared.Fault.{Fault}
+use Rattle.checks.specs.declared.Fault.TheVariants.{Sound, Short, BadSettings, OffGrid, NoLength, BadCount, Open}
+use Rattle.checks.specs.Checks.{fault_of}
+use Rattle.checks.specs.Accepted.{Accepted, accepted}
+use Rattle.overlay.specs.declared.answer.Answer.{Answer}
+use Rattle.overlay.specs.declared.answer.Answer.TheVariants.{Unsettled, ScanFull}
+use Rattle.overlay.specs.Numbers.{told, answer0}
+use Rattle.overlay.specs.Looks.{Ran, settled, refused, radius, joined, look_at, looks_from, ran}
+use Rattle.overlay.specs.Outcome.{Lent, Outcome, zeros, cleared, finished, swept, unless, outcome}
+use Rattle.demands.specs.Chain.{cut, Chain}
+use Rattle.demands.proofs.ExactlyLaws.{settles_exactly}
+use Rattle.demands.proofs.Lengths.{start_fits, looks_fit}
+use Rattle.demands.specs.Answer.{Answered, edges, given}
+
+-- ---- a refusal is not answer 0
+
+abbrev Refusal : Answer → Type 0
+Refusal a = (told a).number ≢ 0
+
+data Proper : Ran → Type 0 where
+  list : {L : List Segment} {looks : ℕ} → Proper (settled L looks)
+  refusal : {a : Answer} → Refusal a → Proper (refused a)
+
+first_of : (b : Bool) {x y : Ran} → Proper x → Proper y → Proper (cond b x y)
+first_of true p q = p
+first_of false p q = q
+
+joined_proper : (K : List Segment) (f : List Segment → Ran) → ((L : List Segment) → Proper (f L)) → Proper (joined K f)
+unfolding joined
+joined_proper K f h = first_of (too_big (sorted K)) (refusal (λ e. omega arith)) (h (merged (sorted K)))
+
+module _ (room work : ℕ) where
+  look_proper : (final : Bool) (made : ℕ) (L : List Segment) (f : List Segment → Ran) → ((K : List Segment) → Proper (f K)) → Proper (look_at room work final made L f)
+  unfolding look_at
+  look_proper final made L f h =
+      first_of (eqb (length L) 0) list
+      (first_of (ltb room (length (look radius L))) (refusal (λ e. omega arith))
+      (first_of (eqb (length (look radius L)) 0) list
+      (first_of final (refusal (λ e. omega arith))
+      (first_of (ltb work (length L + length (tidy (look radius L)))) (refusal (λ e. omega arith)) (joined_proper (cut L) f h)))))
+
+  looks_proper : (left made : ℕ) (L : List Segment) → Proper (looks_from room work left made L)
+  unfolding looks_from
+  looks_proper zero made L = look_proper true made L (λ K. refused Unsettled) (λ K. refusal (λ e. omega arith))
+  looks_proper (suc left) made L = look_proper false made L (looks_from room work left (suc made)) (looks_proper left (suc made))
+
+  ran_proper : (budget : ℕ) (L : List Segment) → Proper (ran room work budget L)
+  unfolding ran
+  ran_proper budget L = joined_proper (map forward L) (looks_from room work (budget - 1) 0) (looks_proper (budget - 1) 0)
+-- ---- the sweep of what the looks come to
+
+record Swept (s : Settings) (l : Lent) (r : Ran) (o : Outcome) (m looks : ℕ) : Type 0 where
+  pub list : List Segment
+  pub ran : r ≡ settled list looks
+  pub number : length list ≡ m
+  pub outcome : o ≡ finished s l list looks
+
+module _ (s : Settings) (l : Lent) (m looks : ℕ) where
+  swept-settled : {r : Ran} → Proper r → (swept s l r).answer ≡ answer0 m looks → Swept s l r (swept s l r) m looks
+  unfolding swept finished
+  swept-settled (refusal n) e = absurd (n (ap (λ t. t.number) e))
+  swept-settled (list {L = L} {looks = k}) e = go (crowded (scan_room (length l.scan)) L) e
+    where
+      go : (b : Bool) → (cond b (cleared l ScanFull) (finished s l L k)).answer ≡ answer0 m looks → Swept s l (settled L k) (cond b (cleared l ScanFull) (finished s l L k)) m looks
+      go true h = absurd (let z = ap (λ t. t.number) h in omega arith)
+      go false h = let n = ap (λ t. t.looks) h in record { list = L; ran = ap (settled L) n; number = ap (λ t. t.segments) h; outcome = ap (finished s l L) n }
+
+-- ---- the outcome
+module _ (input : List ℤ) (s : Settings) (l : Lent) (m looks : ℕ) where
+  abbrev result : Ran
+  result = ran (mark_room (length l.marks)) (work_room (length l.work)) s.budget (given input s)
+
+  list-given : (o : Outcome) (w : Swept s l result o m looks) → edges o m ≡ w.list
+  unfolding finished
+  list-given o w = ap₂ edges w.outcome (sym w.number) ∙ rows-front segments (zeros l.work) w.list
+
+  bytes-given : (o : Outcome) (w : Swept s l result o m looks) → take m o.lists.masks ≡ bytes s.fill s.rule w.list
+  unfolding finished
+  bytes-given o w =
+      let k : m ≡ length (bytes s.fill s.rule w.list) = sym w.number ∙ sym (length-map w.list (byte_of s.fill s.rule w.list)) in
+      ap₂ (λ x n. take n x.lists.masks) w.outcome k ∙ take-append_seam (bytes s.fill s.rule w.list) _
+
+  given_by : (o : Outcome) → Accepted input s (length l.work) (length l.masks) → Swept s l result o m looks → Answered input s l o m looks
+  given_by o a w =
+      let e = list-given o w in
+      let L = given input s in
+      let r = (settles_exactly _ _ s.budget L w.list looks).0 w.ran in
+      let fits = looks_fit r.0.chain r.2 (omega (arith, start_fits L, length-rows segments input 0 s.n, a.roomy.room)) in
+      record {
+        accepted = a;
+        chain = subst (λ K. Chain (given input s) K looks) (sym e) r.0;
+        room = omega (arith, fits, w.number);
+        bytes = bytes-given o w ∙ ap (bytes s.fill s.rule) (sym e);
+      }
+
+  unless-sound : (f : Fault) → fault_of input s (length l.work) (length l.masks) ≡ f → (unless f l (swept s l result)).answer ≡ answer0 m looks
+      → Answered input s l (unless f l (swept s l result)) m looks
+  unfolding unless
+  unless-sound Sound p e =
+      given_by (swept s l result) (accepted input s (length l.work) (length l.masks) p) (swept-settled s l m looks (ran_proper _ _ s.budget (given input s)) e)
+  unless-sound Short p e = absurd (let z = ap (λ t. t.number) e in omega arith)
+  unless-sound BadSettings p e = absurd (let z = ap (λ t. t.number) e in omega arith)
+  unless-sound OffGrid p e = absurd (let z = ap (λ t. t.number) e in omega arith)
+  unless-sound NoLength p e = absurd (let z = ap (λ t. t.number) e in omega arith)
+  unless-sound BadCount p e = absurd (let z = ap (λ t. t.number) e in omega arith)
+  unless-sound Open p e = absurd (let z = ap (λ t. t.number) e in omega arith)
+
+  -- THE THEOREM
+  pub answered : (outcome input s l).answer ≡ answer0 m looks → Answered input s l (outcome input s l) m looks
+  unfolding outcome
+  answered e = unless-sound (fault_of input s (length l.work) (length l.masks)) refl e

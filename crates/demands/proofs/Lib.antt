@@ -1,0 +1,14 @@
+pub mod AnswerLaws
+pub mod BytesLaws
+pub mod ChainLaws
+pub mod ClearLaws
+pub mod EvenLaws
+pub mod ExactlyLaws
+pub mod Lengths
+pub mod OnceLaws
+pub mod OrderedLaws
+pub mod PiecesLaws
+pub mod PlacesLaws
+pub mod RefusalsLaws
+pub mod SettledLaws
+pub mod TheoremsLaws

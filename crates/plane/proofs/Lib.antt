@@ -1,0 +1,14 @@
+pub mod CrossingLaws
+pub mod DotLaws
+pub mod Ends
+pub mod ExactlyLaws
+pub mod ExamplesLaws
+pub mod MeanLaws
+pub mod MeetingLaws
+pub mod NoEndLaws
+pub mod PierceLaws
+pub mod QuotientsLaws
+pub mod RoundLaws
+pub mod TurnsLaws
+pub mod UnmarkedLaws
+pub mod WeightsLaws
