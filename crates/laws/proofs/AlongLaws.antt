@@ -68,6 +68,7 @@ module _ (e t : Segment) (run : e.a.x.0 <ℤ e.b.x.0) (runs-t : t.a.x.0 ≤ℤ t
         (λ h. let k = lt_not {a = e.a.x.0} {b = t.a.x.0} h in let z : t.a.x.0 <ℤ e.b.x.0 = omega zz in lt-true z)
         (λ h. let k = lt_not {a = e.a.x.0} {b = t.b.x.0} h in let z : t.b.x.0 <ℤ e.b.x.0 = omega zz in lt-true z));
   }
+
 -- e need not be in the list, and the list may be moved: it is enough that each is fair to e
 pub along : (w : Segment → ℤ) (L : List Segment) (e : Segment) (g : Point → Point) → Balanced w L → All (λ t. Fair e (moved g t)) L → Over w (λ t. lower_at (moved g t) e) L ≡ Over w (λ t. below_end (moved g t) e) L
 along w L e g bal fs =

@@ -64,6 +64,7 @@ module _ (t : Segment) (P : Off) (h : (P.d *ℤ t.a.x.0) ≤ℤ P.X) (k : P.X <�
   hits-under : (e : Segment) (some : pos 0 <ℤ (v e P +ℤ u e P)) → pos 0 ≤ℤ cross t (foot e P some) → cross t P ≤ℤ pos 0 → Between e P (foot t P (some_t t P h k))
   hits-under e some a b = under (omega (zz, seen e t P some (some_t t P h k), neg_is (cross t (foot e P some))))
       (omega (zz, foot-height t P (some_t t P h k), sub_is (P.Y *ℤ (foot t P (some_t t P h k)).d) ((foot t P (some_t t P h k)).Y *ℤ P.d), mul_nonneg_nonpos {a = P.d} {b = cross t P} (omega (zz, P.over)) b))
+
 -- ---- the theorem
 in_two : (p q : Bool) → (q ≡ true → p ≡ true) → ind p ≡ ind q +ℤ ind (p && not q)
 in_two true true f = refl

@@ -96,6 +96,7 @@ module _ (w : Segment → ℤ) (L : List Segment) (bal : Balanced w L) where
 
   every_φ : (φ : Point → ℤ) → ∂ w φ L ≡ pos 0
   every_φ φ = sym (clears_∂ L φ) ∙ zero-∂ w (clears L φ) L (clears_zero L φ)
+
 from_φ : (w : Segment → ℤ) (L : List Segment) → ((φ : Point → ℤ) → ∂ w φ L ≡ pos 0) → Balanced w L
 unfolding Balanced
 from_φ w L h p = omega (zz, ∂-at w L p, h (one_at p), sub_is (starting w p L) (ending w p L))

@@ -108,6 +108,7 @@ module _ {I : Type 0} (g : (I → ℤ) → ℤ) (w : I → Segment → ℤ) (L :
   law_at : Over (sign g w L) (starts p) L ≡ Over (sign g w L) (ends p) L
   unfolding Balanced starts ends
   law_at = start-total ∙ ap (λ P. rise g base P) (fun_ext (λ i. bal i p)) ∙ sym end-total
+
 -- THE LAW: where every weight is balanced, so is the sign, whatever g
 pub sign_law : {I : Type 0} (g : (I → ℤ) → ℤ) (w : I → Segment → ℤ) (L : List Segment) → Settled L → ((i : I) → Balanced (w i) L) → Balanced (sign g w L) L
 unfolding Balanced starts ends

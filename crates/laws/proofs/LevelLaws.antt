@@ -95,6 +95,7 @@ module _ (e t : Segment) (P : Off) (upr : e.a.x.0 ≡ e.b.x.0) (tall : e.a.y.0 <
   pierced (up_r p q) h k l z = lower_up z (goes_over (pull_dn' mean_up (weak height) (weak room-above) room-below p q))
   pierced (dn_l p q) h k l z = lower-dn z (goes_under (pull_up mean_up (weak height) room-above (weak room-below) p q))
   pierced (dn_r p q) h k l z = lower-dn z (goes_under (pull_up' mean_up (weak height) (weak room-above) room-below p q))
+
 -- where the height is not zero the slope does not matter
 pub lower-off : (h z : ℤ) → (h ≡ pos 0 → ⊥) → lower h z ≡ lt_z (pos 0) h
 lower-off h z n = go (tri h (pos 0))
@@ -138,6 +139,7 @@ module _ (e t : Segment) (P : Off) (f : Free e P t) where
   -- P is not on t, so that the slope does not matter at P
   pub at_point_lem : (P.d *ℤ t.a.x.0) ≤ℤ P.X → P.X ≤ℤ (P.d *ℤ t.b.x.0) → t.a.x.0 <ℤ t.b.x.0 → (z : ℤ) → lower (against (scaled P.d t) (spot P)) z ≡ lt_z (pos 0) (against (scaled P.d t) (spot P))
   at_point_lem h k r z = lower-off (against (scaled P.d t) (spot P)) z (λ o. off-P e t P f h k r (no_factor P.d P.over (sym (against-scaled t P) ∙ o)))
+
 -- S is fair to what has no point of the stretch
 pub fair_to : (S t : Segment) (k : ℤ) → pos 0 <ℤ k → S.a.x.0 <ℤ S.b.x.0 → Before t.a t.b → ((Z : Off) → On S Z → On (scaled k t) Z → ⊥) → Fair S (scaled k t)
 fair_to S t k hk run ft n =

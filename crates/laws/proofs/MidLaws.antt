@@ -136,6 +136,7 @@ module _ (e t : Segment) (P : Off) (i : Inside e P) (run : e.a.x.0 <ℤ e.b.x.0)
         (λ h. le-true (further runs-t (le_of h)))
         (λ h. le-true (far t.a.x.0 (lt_not h)))
         (λ h. le-true (far t.b.x.0 (lt_not h))))
+
 -- THE THEOREM
 pub anywhere : (w : Segment → ℤ) (L : List Segment) → Settled L → Balanced w L → (e : Segment) → In e L → e.a.x.0 <ℤ e.b.x.0 → (P : Off) → Inside e P → bottom w L e ≡ ray w L P
 unfolding ray

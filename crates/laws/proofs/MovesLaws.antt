@@ -50,6 +50,7 @@ module _ (k m : ℤ) (R : Off) (hm : pos 0 <ℤ m) (e : k ≡ m *ℤ R.d) where
   seen_there : (t : Segment) → lt_z (pos 0) (against (scaled k t) (at m (spot R))) ≡ lt_z (pos 0) (cross t R)
   seen_there t = subst (λ z. lt_z (pos 0) (against (scaled z t) (at m (spot R))) ≡ lt_z (pos 0) (cross t R)) (sym e)
       (ap (λ h. lt_z (pos 0) h) (grown_cross t m R) ∙ pos_scaled ((m *ℤ R.d) *ℤ m) (mul_pos (mul_pos hm R.over) hm) (cross t R))
+
 through : (t : Segment) (p : Point) → t.a.x.0 ≤ℤ p.x.0 → p.x.0 ≤ℤ t.b.x.0 → t.a.x.0 <ℤ t.b.x.0 → against t p ≡ pos 0 → Through t p
 through t p h k r z =
     let P = grid p in

@@ -176,6 +176,7 @@ module _ {e t : Segment} (m : Meets e t) (fe : Before e.a e.b) (ft : Before t.a 
   pub start-each : ind (lower_at t e) ≡ ind (under-right e.a t) +ℤ ind (starts e.a t && start-lt e.a t e)
   unfolding StartEach
   start-each = start_at (tri t.a.x.0 e.a.x.0) (tri t.b.x.0 e.a.x.0)
+
 lean-end : (e t : Segment) → e.b ≡ t.b → lean e t ≡ turn e.b e.a t.a
 lean-end e t q = omega (zz, lean-neg t e, sub_is (o₁ t e) (o₂ t e), ap (λ p. against t p) q ∙ turn_end t.a t.b, ap (λ p. turn t.a p e.a) q, turn_cyclic t.a e.b e.a)
 
@@ -246,6 +247,7 @@ module _ {e t : Segment} (m : Meets e t) (fe : Before e.a e.b) (run : e.a.x.0 <�
   pub end-each : Before t.a t.b → ind (below_end t e) +ℤ ind (upto e.b t) ≡ ind (under_left e.b t) +ℤ ind (ends e.b t && end_lt e.b t e)
   unfolding EndEach
   end-each f = end_at f
+
 -- ---- an upright e
 -- straight up from below is the first of what ends at a point
 pub up_first : (o q r : Point) → o.x.0 ≡ q.x.0 → Before q o → Before r o → turn o q r ≤ℤ pos 0

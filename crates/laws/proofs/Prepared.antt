@@ -103,6 +103,7 @@ module _ (d : Side) where
     -- all three: the list of the first look
     pub ∂-prepared : (L : List Segment) → D (merged (sorted (map forward L))) ≡ D L
     ∂-prepared L = ∂-merging (sorted (map forward L)) ∙ ∂-sorted (map forward L) ∙ ∂-forward L
+
   -- THE LAW
   pub prepared_balanced : (L : List Segment) → Balanced (count d) L ↔ Balanced (count d) (merged (sorted (map forward L)))
   prepared_balanced L =

@@ -92,6 +92,7 @@ module _ (w : Segment → ℤ) (L : List Segment) (st : Settled L) (bal : Balanc
 
     left_of_edge : P.X <ℤ (P.d *ℤ e.a.x.0) → ray w L P ≡ top w L e
     left_of_edge = ray-left w L st bal e i upright up P level
+
 -- the count is the same at two points, one right of the other, that a straight stretch joins which no edge meets; the list need not be settled
 between-points : (w : Segment → ℤ) (L : List Segment) → All (λ t. Before t.a t.b) L → Balanced w L → (P Q : Off) → (Q.d *ℤ P.X) <ℤ (P.d *ℤ Q.X) → All (Misses P Q) L → ray w L P ≡ ray w L Q
 between-points = ray_moves

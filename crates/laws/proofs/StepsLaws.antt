@@ -80,6 +80,7 @@ module _ (w : Segment → ℤ) (φ : Point → ℤ) where
   pub ∂-dropped : (e : Segment) (L : List Segment) → w e ≡ pos 0 → ∂ w φ (e ∷ L) ≡ ∂ w φ L
   unfolding ∂ Sum
   ∂-dropped e L h = ap (λ z. z +ℤ ∂ w φ L) (ap (λ c. flow φ c e.a e.b) h ∙ flow-zero φ e.a e.b) ∙ nothing (∂ w φ L)
+
 -- ---- rearranging
 pub ∂-perm : (w : Segment → ℤ) (φ : Point → ℤ) (K L : List Segment) → Perm K L → ∂ w φ K ≡ ∂ w φ L
 unfolding ∂

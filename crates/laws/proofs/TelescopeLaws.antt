@@ -87,6 +87,7 @@ module _ {A : Type 0} (lt : A → A → Bool) (Q : A → Type 0) (o : Strict lt 
   unfolding sort Up
   up_sort [] n p = no_pair
   up_sort (x ∷ L) (also q qs) (pair c cs) = up_insert x (sort lt L) q (all-sort lt Q L qs) (all-sort lt (Told lt x) L c) (up_sort L qs cs)
+
 add_none : (a b : ℤ) → a *ℤ pos 0 +ℤ b ≡ b
 add_none a b = ring (a ∷ b ∷ []) (search reads depth 20 fits 5000) tt
 

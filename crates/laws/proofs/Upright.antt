@@ -74,6 +74,7 @@ module _ (e : Segment) (u : e.a.x.0 ≡ e.b.x.0) (up : e.a.y.0 <ℤ e.b.y.0) whe
     where
       go : t.a.x.0 <ℤ e.b.x.0 → e.b.x.0 ≤ℤ t.b.x.0 → le_z (pos 0) (o₁ t e) ≡ lt_z (pos 0) (o₂ t e)
       go h k = let l = lean_up e t u up (omega zz) in up_left_a e t (omega zz) (runs ft) (place_of m).1 (omega zz) (omega zz) l ∙ sym (up_left_b e t (omega zz) (runs ft) (place_of m).1 h k l)
+
 -- Req 13, second half: the sum on the left side is the top
 pub left_is_top : (w : Segment → ℤ) (L : List Segment) → Settled L → Balanced w L → (e : Segment) → In e L → e.a.x.0 ≡ e.b.x.0 → e.a.y.0 <ℤ e.b.y.0 → left_side w L e ≡ top w L e
 unfolding left_side top

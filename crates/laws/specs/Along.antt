@@ -58,6 +58,7 @@ module _ (e t : Segment) (run : e.a.x.0 <ℤ e.b.x.0) (runs-t : t.a.x.0 ≤ℤ t
 
   abbrev u : Bool
   u = lt_z t.b.x.0 e.b.x.0
+
 -- ---- the sums
 -- the ends of t moved by g; the weights stay those of t
 abbrev pub moved : (Point → Point) → Segment → Segment

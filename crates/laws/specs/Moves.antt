@@ -38,10 +38,10 @@ grown_cross t m R = ring (t.a.x.0 ∷ t.a.y.0 ∷ t.b.x.0 ∷ t.b.y.0 ∷ R.X �
 
 -- ---- a point p on the line of t, between its ends by x: a point of t
 pub record Through (t : Segment) (p : Point) : Type 0 where
-  Z : Off
-  on : On t Z
-  is_x : Z.X ≡ Z.d *ℤ p.x.0
-  is_y : Z.Y ≡ Z.d *ℤ p.y.0
+  pub Z : Off
+  pub on : On t Z
+  pub is_x : Z.X ≡ Z.d *ℤ p.x.0
+  pub is_y : Z.Y ≡ Z.d *ℤ p.y.0
 
 -- ---- the stretch from P to Q
 abbrev pub stretch : Off → Off → Segment

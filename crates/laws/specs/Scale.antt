@@ -66,6 +66,7 @@ module _ (k : ℤ) (hk : pos 0 <ℤ k) where
 
   pub pos_scaled : (c : ℤ) → lt_z (pos 0) (k *ℤ c) ≡ lt_z (pos 0) c
   pos_scaled c = ap (λ z. lt_z z (k *ℤ c)) (sym (*ℤ-zero k)) ∙ lt-scaled k (pos 0) c hk
+
 -- a point of d, against the scaled edge
 pub against-scaled : (t : Segment) (P : Off) → against (scaled P.d t) (spot P) ≡ P.d *ℤ cross t P
 unfolding turn cross

@@ -50,6 +50,7 @@ module _ (radius : ℕ) where
 
   pub look_cuts : (L : List Segment) → All GridSegment L → All (Cuts 0 L) (look radius L)
   look_cuts L gs = cuts_from 0 L gs
+
 both-empty : {A : Type 0} (xs ys : List A) → xs ++ ys ≡ [] → (xs ≡ []) × (ys ≡ [])
 both-empty [] ys e = (refl, e)
 both-empty (x ∷ xs) ys e = let z : ◌≡◌ {A = ℕ} 0 1 = cc in absurd (omega arith)

@@ -69,6 +69,7 @@ module _ (i j : ℕ) (t o : Segment) where
 
   pub marks_no_end : (radius : ℕ) → All (MarkOf i j t o) (pair_marks radius i j t o)
   marks_no_end radius = of_outcome (outcome radius t o)
+
 pub mark_on_grid : {i j : ℕ} {t o : Segment} {m : Mark} → GridSegment t → GridSegment o → MarkOf i j t o m → GridPoint m.point
 mark_on_grid gt go (of_target p h) = place_on_grid gt go p
 mark_on_grid gt go (of_other p h) = place_on_grid gt go p
