@@ -66,6 +66,7 @@ module _ (room work : ℕ) where
   ran_proper : (budget : ℕ) (L : List Segment) → Proper (ran room work budget L)
   unfolding ran
   ran_proper budget L = joined_proper (map forward L) (looks_from room work (budget - 1) 0) (looks_proper (budget - 1) 0)
+
 -- ---- the sweep of what the looks come to
 
 record Swept (s : Settings) (l : Lent) (r : Ran) (o : Outcome) (m looks : ℕ) : Type 0 where

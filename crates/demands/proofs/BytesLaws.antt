@@ -61,6 +61,7 @@ module _ (fill : ℕ) (L : List Segment) (e : Segment) where
         yes : (b : Bool) → kept rule (mask_of fill L e) ≡ b → sign rule (mask_of fill L e) ≢ pos 0 → b ≡ true
         yes true k n = refl
         yes false k n = absurd (n (sign_of_dropped rule (mask_of fill L e) k))
+
 -- THE LAW: at every point the signs of the edges that start there sum to those of the edges that end there
 pub signs_balanced : (fill rule : ℕ) (L : List Segment) → Settled L → Even L → Balanced (λ e. sign rule (mask_of fill L e)) L
 unfolding sign_of_sides

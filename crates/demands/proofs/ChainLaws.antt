@@ -79,6 +79,7 @@ module _ (room work : ℕ) where
   run_chain budget L K looks e =
       let m = made_by (budget - 1) 0 (start L) K looks (joined_step (map forward L) K (looks_from room work (budget - 1) 0) looks e).1 in
       record { lists = m.0; chain = m.1; number = omega (arith, m.2) }
+
 -- ---- and there is one: the list of the first look settles those that follow
 pub no_marks : look radius [] ≡ []
 unfolding look_from

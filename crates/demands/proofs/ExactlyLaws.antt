@@ -40,6 +40,7 @@ module _ (room work made : ℕ) (f : List Segment → Ran) (L : List Segment) wh
       go (no_look h k m) = absurd (marks_of_some n h)
       go (no_mark_lem h k m r) = absurd (n k)
       go (some_marks h g p r) = (g, p, r)
+
 joined_on : (K : List Segment) (f : List Segment → Ran) → too_big (sorted K) ≡ false → joined K f ≡ f (merged (sorted K))
 unfolding joined
 joined_on K f e = rw e

@@ -59,6 +59,7 @@ module _ (f : Point → ℕ) where
       go : (t : Bool) → ((q : Point) → sum f (chain_from q b gs) ≡ whole gs) → sum f (cond t (reverse g) g ++ chain_from (last_of p (cond t (reverse g) g)) b gs) ≡ sum f g + whole gs
       go true h = omega (arith, sum_of-append f (reverse g) (chain_from (last_of p (reverse g)) b gs), (sum-turned f) g [], h (last_of p (reverse g)))
       go false h = omega (arith, sum_of-append f g (chain_from (last_of p g) b gs), h (last_of p g))
+
 pub chain-perm : (v : Segment) (ps : List Point) → Perm (chain v ps) ps
 chain-perm v ps f = sum-chain f v.a v.b (columns ps) ∙ sum-columns f ps
 
@@ -84,6 +85,7 @@ module _ (test : Point → Bool) where
 
   pub chain-all : (v : Segment) {ps : List Point} → All (λ p. test p ≡ true) ps → All (λ p. test p ≡ true) (chain v ps)
   chain-all v {ps} h = all_passed (chain v ps) (chain-perm v ps (λ p. fails (test p)) ∙ none-failed h)
+
 -- ---- from a over the marks to b
 
 pub from_a_to_b : (v : Segment) (ps : List Point) → v.a ≢ v.b → Pairs ◌≢◌ ps → All (NoEnd v) ps → Once (v.a ∷ (chain v ps ++ v.b ∷ []))

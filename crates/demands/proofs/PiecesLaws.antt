@@ -69,6 +69,7 @@ module _ (i : ℕ) where
   points-all : {P : Point → Type 0} {ms : List Mark} → All (λ m. m.segment ≡ pos i → P m.point) ms → All P (points_of i ms)
   unfolding points_of
   points-all h = all-over (λ m. m.point) (all_map (λ m k. k.1 (mine_is m k.0)) (all_keep mine h))
+
 -- ---- the pieces
 
 abbrev piece : Segment → Point → Point → Segment
@@ -89,6 +90,7 @@ module _ (v : Segment) {ps : List Point} where
 
   cut-good : Good v → Pairs ◌≢◌ ps → All (NoEnd v) ps → All GridPoint ps → All Good (pieces_from v v.a (chain v ps))
   cut-good g d n h = pieces-good v v.a g.0.a (chain-grid h) g.0.b (from_a_to_b v ps (before-differ g.1) d n)
+
 -- a mark, against a list whose first segment is number i
 abbrev Fair : ℕ → List Segment → Mark → Type 0
 Fair i L m = GridPoint m.point × Clear i L m

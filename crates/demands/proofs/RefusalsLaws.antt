@@ -56,6 +56,7 @@ module _ (marks work scan : ℕ) where
       ⊎_elim ends-here
       (λ g. let e = looks-end left (next L) in record { rest = e.rest; list = e.list; comes = on g.1 e.comes; number = e.number; met = e.met })
       (one-look (suc left) L)
+
 -- ---- the run
 
 some_marks : (L : List Segment) → StillMarks L → look radius L ≢ []

@@ -149,6 +149,7 @@ module _ (input : List ℤ) (s : Settings) (l : Lent) (m looks : ℕ) (zero : (o
 
         pub ray-left_of_edge : P.X <ℤ (P.d *ℤ (edge o k).a.x.0) → bit (top_bit d) (byte o k % 16) ≡ inside s.fill (ray (count d) K P)
         ray-left_of_edge c = top-bit ∙ ap (inside s.fill) (sym (ray-left (count d) K apart (even d) (edge o k) at_k u (rises (forward k h) u) P v (omega zz)))
+
   -- ---- demand 3
 
   -- "Input and answer", 6: at every point, for either side, what starts counts as much as what ends: in the list turned, before each look, after each split and each

@@ -50,6 +50,7 @@ module _ (f : Point → ℕ) where
       go : (b : Bool) → whole (cond b ((p ∷ q ∷ g) ∷ gs) ((p ∷ []) ∷ (q ∷ g) ∷ gs)) ≡ f p + whole ((q ∷ g) ∷ gs)
       go true = omega arith
       go false = omega arith
+
 -- two next to each other differ
 pub next_differs : (p q : Point) (ps : List Point) → Once (p ∷ q ∷ ps) → p ≢ q
 next_differs p q ps h e = let self : at p p ≡ 1 = at_same refl in omega (arith, h p, at_same e)

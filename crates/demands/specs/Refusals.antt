@@ -77,7 +77,6 @@ module _ (marks work scan : ℕ) where
     pub met : Met marks work scan rest list number
 
 module _ (marks work : ℕ) where
-
   module _ (s : Settings) (l : Lent) where
     abbrev scan : ℕ
     scan = scan_room (length l.scan)
