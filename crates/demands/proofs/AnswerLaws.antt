@@ -1,13 +1,12 @@
 -- What answer 0 says of the outcome of a run: the checks 1 to 6 passed, the looks settled, and the work and mask lists begin with the edges and their bytes.
-use Rattle.std.specs.Prelude.{◌≡◌, Bool, not, cond, List, map, ◌≢◌, ℤ, eqb, ltb}
+use Rattle.std.specs.Prelude.{◌≡◌, Bool, cond, List, map, ◌≢◌, ℤ, eqb, ltb}
 use Rattle.std.proofs.Math.Path.{refl, sym, ap, ap₂}
 use Rattle.std.proofs.Common.{◌∙◌, subst, arith}
 use Rattle.std.proofs.Math.Bool.{true, false}
-use Prim.Native.Nat.{ℕ, zero, suc, ◌+◌, ◌-◌, ◌≤◌}
+use Prim.Native.Nat.{ℕ, zero, suc, ◌+◌, ◌-◌}
 use Rattle.std.proofs.Math.ListN.{length, take}
 use Rattle.std.proofs.lemmas.List.{length-map}
 use Rattle.std.proofs.Math.Seq.{take-append_seam}
-use Rattle.whole.specs.Kind.{rows_from}
 use Rattle.whole.proofs.KindLaws.{length-rows, rows-front}
 use Rattle.geom.specs.declared.Segment.{Segment}
 use Rattle.geom.specs.Limits.{work_room, mark_room, scan_room}

@@ -1,21 +1,15 @@
 -- The byte of an edge ("Masks", "Keeping"): its low four bits are the fill rule's word on the sums at the top and the bottom of the edge, 16 is added exactly if the
 -- edge's sign under the overlay rule is not zero, and in a settled, balanced list the signs are balanced (demand 3).
-use Rattle.std.specs.Prelude.{◌≡◌, refl, Bool, true, false, List, ◌↔◌, ◌≢◌, ℕ, ◌+◌, ◌*◌, ◌/◌, ◌%◌, ◌<◌, pos, ◌-ℤ◌, eqb}
-use Rattle.std.proofs.Common.{sym, ◌∙◌, subst, arith, eq-eqb, ne_eqb}
-use Rattle.std.proofs.Math.Path.{fun_ext}
+use Rattle.std.specs.Prelude.{◌≡◌, refl, Bool, true, false, List, ◌↔◌, ◌≢◌, ℕ, ◌/◌, ◌%◌, ◌<◌, pos, ◌-ℤ◌, eqb}
+use Rattle.std.proofs.Common.{sym, ◌∙◌, arith, eq-eqb, ne_eqb}
 use Rattle.whole.specs.Sum.{ind}
 use Rattle.whole.specs.Total.{clash}
 use Rattle.geom.specs.declared.Segment.{Segment}
 use Rattle.geom.specs.Plane.{Side, subject, clip, count}
-use Rattle.segm.specs.Balance.{Balanced}
 use Rattle.fills.specs.Inside.{inside}
 use Rattle.rules.specs.Keep.{flag, truth, bit, kept, sign}
 use Rattle.rules.proofs.KeepLaws.{dropped_by_sign, sign_of_dropped}
 use Rattle.scan.specs.Masks.{bottom, top, mask_of, byte_of}
-use Rattle.laws.specs.Settled.{Settled}
-use Rattle.laws.specs.Law.{sign_of_sides}
-use Rattle.laws.proofs.LawLaws.{sides_law}
-use Rattle.demands.specs.Even.{Even}
 use Rattle.demands.specs.Bytes.{bottom_bit, kept_bit, mask_below, one, top_bit}
 
 reads : (b : Bool) (n : ℕ) → n ≡ flag b → eqb n 1 ≡ b
@@ -61,9 +55,3 @@ module _ (fill : ℕ) (L : List Segment) (e : Segment) where
         yes : (b : Bool) → kept rule (mask_of fill L e) ≡ b → sign rule (mask_of fill L e) ≢ pos 0 → b ≡ true
         yes true k n = refl
         yes false k n = absurd (n (sign_of_dropped rule (mask_of fill L e) k))
-
--- THE LAW: at every point the signs of the edges that start there sum to those of the edges that end there
-pub signs_balanced : (fill rule : ℕ) (L : List Segment) → Settled L → Even L → Balanced (λ e. sign rule (mask_of fill L e)) L
-unfolding sign_of_sides
-signs_balanced fill rule L st even =
-    subst (λ w. Balanced w L) (sym (fun_ext (λ e. sign_is fill L e rule))) (sides_law (λ s c. ind (truth rule (inside fill s) (inside fill c))) L st even)

@@ -2,24 +2,19 @@
 use Rattle.std.specs.Prelude.{◌≡◌, refl, Bool, cond, List, [], ◌∷◌, map, ◌≢◌, ltb, eqb, length}
 use Rattle.std.proofs.Common.{sym, ap, ◌∙◌, subst, arith, eqb-true, ltb-false}
 use Rattle.std.proofs.Math.Bool.{true, false}
-use Prim.Native.Nat.{ℕ, zero, suc, ◌+◌, ◌-◌, ◌≤◌}
+use Prim.Native.Nat.{ℕ, zero, suc, ◌+◌, ◌-◌}
 use Rattle.geom.specs.declared.Segment.{Segment}
 use Rattle.segm.specs.Forward.{forward, sorted}
 use Rattle.segm.specs.Merge.{merged, too_big}
 use Rattle.split.specs.Look.{look_from, look, tidy}
-use Rattle.split.specs.Chain.{split}
 use Rattle.whole.specs.Total.{clash}
 use Rattle.split.specs.declared.answer.Mark.{Mark}
 use Rattle.overlay.specs.declared.answer.Answer.{Answer}
 use Rattle.overlay.specs.declared.answer.Answer.TheVariants.{MarksFull, WorkFull, TooBig, Unsettled}
 use Rattle.overlay.specs.Looks.{Ran, settled, refused, radius, joined, look_at, looks_from, ran}
-use Rattle.demands.specs.Chain.{Chain, Looks, Passes, Step, cut, next, start, empty, done, again, no_look, no_mark_lem, some_marks}
+use Rattle.demands.specs.Chain.{Made, Chain, Looks, Step, cut, next, start, empty, done, again, no_look, no_mark_lem, some_marks}
 
 -- ---- the run makes such a chain
-
--- the looks at L that come to K, with made looks before them
-abbrev Made : List Segment → List Segment → ℕ → ℕ → Type 0
-Made L K made looks = (Ls : List (List Segment)) × Looks L Ls K × (made + length Ls ≡ looks)
 
 refusal : {B : Type 0} {a : Answer} {K : List Segment} {looks : ℕ} → refused a ≡ settled K looks → B
 refusal e = let z : ◌≡◌ {A = ℕ} 0 1 = cc in absurd (omega arith)

@@ -1,11 +1,8 @@
 -- Every mark of a look, by its number: it is no end of the segment of that number, wherever in the list that segment stands.
-use Rattle.std.specs.Prelude.{◌≡◌, refl, List, [], ◌∷◌, ◌≢◌, ℕ, suc, ◌+◌, ◌<◌, ℤ, pos}
+use Rattle.std.specs.Prelude.{List, ℕ, suc, ◌+◌}
 use Rattle.std.proofs.Common.{arith}
-use Rattle.geom.specs.declared.Point.{Point}
 use Rattle.geom.specs.declared.Segment.{Segment}
-use Rattle.plane.specs.NoEnd.{NoEnd}
 use Rattle.split.specs.declared.answer.Mark.{Mark}
-use Rattle.split.specs.Look.{mark}
 use Rattle.split.specs.LookLaws.{Cuts, here, there}
 use Rattle.split.proofs.LookLaws.{cut-number}
 use Rattle.demands.specs.Clear.{Clear, other-number, past, step}

@@ -5,16 +5,16 @@ use Rattle.std.specs.Prelude.{List, map}
 use Rattle.whole.specs.Sum.{All, none, also}
 use Rattle.whole.proofs.SumLaws.{all_map}
 use Rattle.geom.specs.declared.Segment.{Segment}
-use Rattle.geom.specs.Plane.{Side, count}
+use Rattle.geom.specs.Plane.{count}
 use Rattle.segm.specs.Forward.{forward, sorted}
 use Rattle.segm.specs.Merge.{merged}
-use Rattle.segm.specs.Balance.{Balanced, closed}
+use Rattle.segm.specs.Balance.{Balanced}
 use Rattle.split.specs.Look.{look, tidy}
 use Rattle.laws.proofs.StepsLaws.{keeps}
 use Rattle.laws.proofs.Prepared.{∂-forward, ∂-sorted, ∂-merging}
 use Rattle.laws.proofs.Cuts.{split-balanced}
 use Rattle.overlay.specs.Looks.{radius}
-use Rattle.demands.specs.Chain.{start, cut, next, Looks, empty, done, again}
+use Rattle.demands.specs.Chain.{start, cut, Looks, empty, done, again}
 use Rattle.demands.specs.Even.{AllEven, Even}
 
 turned_even : (L : List Segment) → Even L → Even (map forward L)

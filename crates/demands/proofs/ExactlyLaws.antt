@@ -1,12 +1,12 @@
 -- The looks settle exactly if their chain ends and no refusal 7 to 10 stands in the way of it ("Input and answer": none is given otherwise).
-use Rattle.std.specs.Prelude.{◌≡◌, Bool, ◌↔◌, ◌≢◌, eqb}
+use Rattle.std.specs.Prelude.{◌≡◌, Bool, ◌↔◌, ◌≢◌}
 use Rattle.std.proofs.Math.Path.{refl, ap}
 use Rattle.std.proofs.Common.{◌∙◌, arith}
 use Rattle.std.proofs.Math.Bool.{true, false}
-use mathlib.Core.List.{List, [], ◌∷◌, map}
+use mathlib.Core.List.{List, [], map}
 use Prim.Native.Nat.{ℕ, zero, suc, ◌+◌, ◌-◌}
 use Rattle.std.proofs.Math.ListN.{length}
-use borrow.Author.Tests.{eq-eqb, ne_eqb, le-ltb}
+use borrow.Author.Tests.{le-ltb}
 use Rattle.whole.specs.Total.{clash}
 use Rattle.geom.specs.declared.Segment.{Segment}
 use Rattle.segm.specs.Forward.{forward, sorted}

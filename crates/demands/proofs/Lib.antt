@@ -11,4 +11,6 @@ pub mod PiecesLaws
 pub mod PlacesLaws
 pub mod RefusalsLaws
 pub mod SettledLaws
-pub mod TheoremsLaws
+pub mod Theorems
+pub mod PairsLaws
+pub mod SignsLaws

@@ -4,7 +4,7 @@ use Rattle.std.specs.Prelude.{◌≡◌, Bool, cond, ◌≢◌, ℕ, ◌+◌, �
 use Rattle.std.proofs.Math.Path.{refl}
 use Rattle.std.proofs.Common.{sym, ◌∙◌}
 use Rattle.std.proofs.Math.Bool.{true, false}
-use mathlib.Core.List.{List, [], ◌∷◌, ◌++◌, reverse, reverse_aux}
+use mathlib.Core.List.{List, [], ◌∷◌, ◌++◌, reverse}
 use native.Mathlib.Omega.{arith}
 use Rattle.std.specs.Int.Signed.{lt_z}
 use Rattle.whole.specs.Sorting.{sum, Perm}
@@ -13,11 +13,11 @@ use Rattle.whole.specs.Sum.{All, none, also, Pairs, no_pair, pair}
 use Rattle.whole.proofs.SumLaws.{all_map}
 use Rattle.geom.specs.declared.Point.{Point}
 use Rattle.geom.specs.declared.Segment.{Segment}
-use Rattle.geom.specs.Plane.{same_point, sameZ}
-use Rattle.geom.specs.Tests.{Decides, yes, no, holds, fails as refuted}
+use Rattle.geom.specs.Plane.{same_point}
+use Rattle.geom.specs.Tests.{Decides, yes, no, fails as refuted}
 use Rattle.geom.proofs.TestsLaws.{same_point?}
 use Rattle.plane.specs.NoEnd.{NoEnd}
-use Rattle.split.specs.Chain.{add_to, columns, next_y, last_of, chain_from, chain}
+use Rattle.split.specs.Chain.{columns, next_y, last_of, chain_from, chain}
 use Rattle.demands.specs.Once.{Once, at_same, sum-turned, sum_added, times}
 
 -- how often x comes among points

@@ -1,15 +1,14 @@
 -- Every list of a run of segments on the grid and with length is on the grid, forward, and strictly in order by its ends, so no two of its segments are equal
 -- ("The run", "Merge").
-use Rattle.std.specs.Prelude.{List, ◌≢◌}
-use Rattle.whole.specs.Sum.{All, none, also, Pairs}
+use Rattle.std.specs.Prelude.{List}
+use Rattle.whole.specs.Sum.{All, none, also}
 use Rattle.whole.proofs.SumLaws.{all_map, all-over, all-sort}
 use Rattle.geom.specs.declared.Point.{Point}
 use Rattle.geom.specs.declared.Segment.{Segment}
-use Rattle.geom.specs.Plane.{GridPoint, GridSegment, Before}
+use Rattle.geom.specs.Plane.{GridPoint, Before}
 use Rattle.segm.specs.Forward.{forward, in_order, sorted}
 use Rattle.segm.specs.ForwardLaws.{forward-grid, forward_runs}
 use Rattle.segm.specs.Merge.{merged}
-use Rattle.segm.specs.Order.{EndsBefore}
 use Rattle.segm.proofs.MergeLaws.{merged-ends, sorted_merged}
 use Rattle.demands.specs.Chain.{start, Looks, empty, done, again}
 use Rattle.demands.specs.Pieces.{Good}

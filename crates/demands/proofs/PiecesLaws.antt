@@ -12,7 +12,7 @@ use Rattle.whole.proofs.SumLaws.{all_map, all_both, all_of, all_append, all-over
 use Rattle.whole.proofs.KindSortLaws.{by_numbers_lem}
 use Rattle.geom.specs.declared.Point.{Point}
 use Rattle.geom.specs.declared.Segment.{Segment}
-use Rattle.geom.specs.Plane.{GridPoint, GridSegment, Before, grid_point, sameZ}
+use Rattle.geom.specs.Plane.{GridPoint, grid_point, sameZ}
 use Rattle.geom.specs.Order.{before-differ}
 use Rattle.geom.specs.Tests.{same?, holds, when_true}
 use Rattle.geom.proofs.TestsLaws.{grid_point?}

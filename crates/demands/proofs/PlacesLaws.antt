@@ -3,21 +3,14 @@ use Rattle.std.specs.Prelude.{◌≡◌, refl, List, [], ◌∷◌, map, ℕ, ze
 use Rattle.std.proofs.Common.{sym, ap, ◌∙◌, subst, arith, get_or-take}
 use Rattle.whole.specs.Kind.{row_at, rows_from}
 use Rattle.whole.proofs.KindLaws.{rows_at, length-rows}
-use Rattle.whole.specs.Sum.{Pairs, pair, In, here, there}
-use Rattle.whole.proofs.SumLaws.{all_in}
+use Rattle.whole.specs.Sum.{Pairs, In}
 use Rattle.geom.specs.declared.Segment.{Segment}
 use Rattle.geom.specs.Rows.{segments}
 use Rattle.scan.specs.Masks.{byte_of, bytes}
 use Rattle.demands.specs.Places.{in_at}
+use Rattle.demands.proofs.PairsLaws.{pairs_at}
 
 module _ {A : Type 0} (d : A) where
-  pairs_at : {R : A → A → Type 0} {L : List A} → Pairs R L → (i j : ℕ) → i < j → j < length L → R (get_or L i d) (get_or L j d)
-  pairs_at {L = []} p i j h k = absurd (omega arith)
-  pairs_at {L = t ∷ L} (pair a p) zero zero h k = absurd (omega arith)
-  pairs_at {L = t ∷ L} (pair a p) zero (suc j) h k = all_in ((in_at d) L j (omega arith)) a
-  pairs_at {L = t ∷ L} (pair a p) (suc i) zero h k = absurd (omega arith)
-  pairs_at {L = t ∷ L} (pair a p) (suc i) (suc j) h k = pairs_at p i j (omega arith) (omega arith)
-
   map_at : (f : A → ℕ) (L : List A) (k : ℕ) → k < length L → get_or (map f L) k 0 ≡ f (get_or L k d)
   map_at f [] k h = absurd (omega arith)
   map_at f (t ∷ L) zero h = refl

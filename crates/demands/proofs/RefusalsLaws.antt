@@ -17,7 +17,7 @@ use Rattle.checks.specs.declared.Settings.{Settings}
 use Rattle.checks.specs.declared.Fault.{Fault}
 use Rattle.checks.specs.declared.Fault.TheVariants.{Sound, Short, BadSettings, OffGrid, NoLength, BadCount, Open}
 use Rattle.checks.specs.Checks.{check_says, fault_of}
-use Rattle.checks.specs.Exactly.{Given, exactly as exactly-fault}
+use Rattle.checks.specs.Exactly.{exactly as exactly-fault}
 use Rattle.overlay.specs.declared.answer.Answer.TheVariants.{ScanFull}
 use Rattle.overlay.specs.Looks.{Ran, settled, radius, joined, look_at, looks_from, ran}
 use Rattle.overlay.specs.Outcome.{Lent, Outcome, cleared, finished, swept, unless, outcome}

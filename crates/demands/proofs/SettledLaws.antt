@@ -1,19 +1,11 @@
 -- Settled (demand 1): a look without marks at an ordered list leaves every two of its edges apart, and so with no common point but ends of both
 -- ("Points off the grid": said of all X, Y, d).
-use Rattle.std.specs.Prelude.{◌≡◌, List, []}
-use Rattle.whole.specs.Sum.{All, none, Pairs, no_pair}
-use Rattle.whole.proofs.SumLaws.{all_map, pairs_map}
+use Rattle.std.specs.Prelude.{List}
+use Rattle.whole.specs.Sum.{none, Pairs, no_pair}
+use Rattle.whole.proofs.SumLaws.{pairs_map}
 use Rattle.geom.specs.declared.Segment.{Segment}
-use Rattle.geom.specs.Order.{before-differ}
-use Rattle.geom.specs.Off.{Off, On, EndOf}
 use Rattle.plane.proofs.Ends.{apart-ends}
-use Rattle.plane.specs.Pierce.{Different}
-use Rattle.segm.specs.Order.{EndsBefore, by_a, by_b}
-use Rattle.split.specs.Look.{look}
-use Rattle.split.specs.LookLaws.{Forward}
-use Rattle.split.proofs.LookLaws.{look-settled}
 use Rattle.laws.specs.Settled.{Settled}
-use Rattle.overlay.specs.Looks.{radius}
 use Rattle.demands.specs.Chain.{Looks, empty, done, again}
 use Rattle.demands.specs.Ordered.{Ordered}
 use Rattle.demands.specs.Settled.{MeetAtEnds, unmarked-settled}

@@ -1,32 +1,16 @@
 -- What answer 0 says of the outcome of a run: the checks 1 to 6 passed, the looks settled, and the work and mask lists begin with the edges and their bytes.
-use Rattle.std.specs.Prelude.{◌≡◌, Bool, not, cond, List, map, ◌≢◌, ℤ, eqb, ltb}
-use Rattle.std.proofs.Math.Path.{refl, sym, ap, ap₂}
-use Rattle.std.proofs.Common.{◌∙◌, subst, arith}
-use Rattle.std.proofs.Math.Bool.{true, false}
-use Prim.Native.Nat.{ℕ, zero, suc, ◌+◌, ◌-◌, ◌≤◌}
+use Rattle.std.specs.Prelude.{◌≡◌, List, ℤ}
+use Prim.Native.Nat.{ℕ, ◌≤◌}
 use Rattle.std.proofs.Math.ListN.{length, take}
-use Rattle.std.proofs.lemmas.List.{length-map}
-use Rattle.std.proofs.Math.Seq.{take-append_seam}
 use Rattle.whole.specs.Kind.{rows_from}
-use Rattle.whole.proofs.KindLaws.{length-rows, rows-front}
 use Rattle.geom.specs.declared.Segment.{Segment}
-use Rattle.geom.specs.Limits.{work_room, mark_room, scan_room}
+use Rattle.geom.specs.Limits.{work_room}
 use Rattle.geom.specs.Rows.{segments}
-use Rattle.segm.specs.Forward.{forward, sorted}
-use Rattle.segm.specs.Merge.{merged, too_big}
-use Rattle.split.specs.Look.{look, tidy}
-use Rattle.scan.specs.Masks.{byte_of, bytes, crowded}
+use Rattle.scan.specs.Masks.{bytes}
 use Rattle.checks.specs.declared.Settings.{Settings}
-use Rattle.checks.specs.declared.Fault.{Fault}
-use Rattle.checks.specs.declared.Fault.TheVariants.{Sound, Short, BadSettings, OffGrid, NoLength, BadCount, Open}
-use Rattle.checks.specs.Checks.{fault_of}
-use Rattle.checks.specs.Accepted.{Accepted, accepted}
-use Rattle.overlay.specs.declared.answer.Answer.{Answer}
-use Rattle.overlay.specs.declared.answer.Answer.TheVariants.{Unsettled, ScanFull}
-use Rattle.overlay.specs.Numbers.{told, answer0}
-use Rattle.overlay.specs.Looks.{Ran, settled, refused, radius, joined, look_at, looks_from, ran}
-use Rattle.overlay.specs.Outcome.{Lent, Outcome, zeros, cleared, finished, swept, unless, outcome}
-use Rattle.demands.specs.Chain.{cut, Chain}
+use Rattle.checks.specs.Accepted.{Accepted}
+use Rattle.overlay.specs.Outcome.{Lent, Outcome}
+use Rattle.demands.specs.Chain.{Chain}
 
 -- the segments of the input
 abbrev pub given : List ℤ → Settings → List Segment

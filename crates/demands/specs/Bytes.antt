@@ -1,21 +1,12 @@
 -- The byte of an edge ("Masks", "Keeping"): its low four bits are the fill rule's word on the sums at the top and the bottom of the edge, 16 is added exactly if the
 -- edge's sign under the overlay rule is not zero, and in a settled, balanced list the signs are balanced (demand 3).
-use Rattle.std.specs.Prelude.{◌≡◌, refl, Bool, true, false, List, ◌↔◌, ◌≢◌, ℕ, ◌+◌, ◌*◌, ◌/◌, ◌%◌, ◌<◌, pos, ◌-ℤ◌, eqb}
-use Rattle.std.proofs.Common.{sym, ◌∙◌, subst, arith, eq-eqb, ne_eqb}
-use Rattle.std.proofs.Math.Path.{fun_ext}
-use Rattle.whole.specs.Sum.{ind}
-use Rattle.whole.specs.Total.{clash}
+use Rattle.std.specs.Prelude.{◌≡◌, Bool, true, false, List, ℕ, ◌+◌, ◌*◌, ◌%◌, ◌<◌}
+use Rattle.std.proofs.Common.{arith}
 use Rattle.geom.specs.declared.Segment.{Segment}
 use Rattle.geom.specs.Plane.{Side, subject, clip, count}
-use Rattle.segm.specs.Balance.{Balanced}
 use Rattle.fills.specs.Inside.{inside}
-use Rattle.rules.specs.Keep.{flag, truth, bit, kept, sign}
-use Rattle.rules.proofs.KeepLaws.{dropped_by_sign, sign_of_dropped}
+use Rattle.rules.specs.Keep.{flag, kept}
 use Rattle.scan.specs.Masks.{bottom, top, mask_of, byte_of}
-use Rattle.laws.specs.Settled.{Settled}
-use Rattle.laws.specs.Law.{sign_of_sides}
-use Rattle.laws.proofs.LawLaws.{sides_law}
-use Rattle.demands.specs.Even.{Even}
 
 -- subject top 1, subject bottom 2, clip top 4, clip bottom 8
 abbrev pub top_bit : Side → ℕ

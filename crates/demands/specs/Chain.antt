@@ -1,18 +1,13 @@
 -- The chain of lists that "The run" makes: the list before each look, each from the one before it, down to a list that is settled.
-use Rattle.std.specs.Prelude.{◌≡◌, refl, Bool, cond, List, [], ◌∷◌, map, ◌≢◌, ltb, eqb, length}
-use Rattle.std.proofs.Common.{sym, ap, ◌∙◌, subst, arith, eqb-true, ltb-false}
-use Rattle.std.proofs.Math.Bool.{true, false}
-use Prim.Native.Nat.{ℕ, zero, suc, ◌+◌, ◌-◌, ◌≤◌}
+use Rattle.std.specs.Prelude.{◌≡◌, Bool, List, [], ◌∷◌, map, ◌≢◌, length}
+use Rattle.std.proofs.Math.Bool.{false}
+use Prim.Native.Nat.{ℕ, suc, ◌+◌, ◌≤◌}
 use Rattle.geom.specs.declared.Segment.{Segment}
 use Rattle.segm.specs.Forward.{forward, sorted}
 use Rattle.segm.specs.Merge.{merged, too_big}
-use Rattle.split.specs.Look.{look_from, look, tidy}
+use Rattle.split.specs.Look.{look, tidy}
 use Rattle.split.specs.Chain.{split}
-use Rattle.whole.specs.Total.{clash}
-use Rattle.split.specs.declared.answer.Mark.{Mark}
-use Rattle.overlay.specs.declared.answer.Answer.{Answer}
-use Rattle.overlay.specs.declared.answer.Answer.TheVariants.{MarksFull, WorkFull, TooBig, Unsettled}
-use Rattle.overlay.specs.Looks.{Ran, settled, refused, radius, joined, look_at, looks_from, ran}
+use Rattle.overlay.specs.Looks.{Ran, settled, radius}
 
 -- the list of the first look: turned, sorted, merged
 abbrev pub start : List Segment → List Segment
@@ -41,7 +36,7 @@ pub record Chain (L K : List Segment) (looks : ℕ) : Type 0 where
 -- ---- the run makes such a chain
 
 -- the looks at L that come to K, with made looks before them
-abbrev Made : List Segment → List Segment → ℕ → ℕ → Type 0
+abbrev pub Made : List Segment → List Segment → ℕ → ℕ → Type 0
 Made L K made looks = (Ls : List (List Segment)) × Looks L Ls K × (made + length Ls ≡ looks)
 
 -- a look that yields marks passes 7, 8 and 9

@@ -1,20 +1,12 @@
 -- Balanced (demand 3): what starts at a point counts as much as what ends there, for either side, in every list that the run makes of a closed one. Turning
 -- forward, sorting, merging and splitting each keep the boundary of a list (crate laws).
-use Rattle.std.proofs.Common.{sym, ◌∙◌}
 use Rattle.std.specs.Prelude.{List, map}
-use Rattle.whole.specs.Sum.{All, none, also}
-use Rattle.whole.proofs.SumLaws.{all_map}
+use Rattle.whole.specs.Sum.{All}
 use Rattle.geom.specs.declared.Segment.{Segment}
 use Rattle.geom.specs.Plane.{Side, count}
-use Rattle.segm.specs.Forward.{forward, sorted}
-use Rattle.segm.specs.Merge.{merged}
-use Rattle.segm.specs.Balance.{Balanced, closed}
-use Rattle.split.specs.Look.{look, tidy}
-use Rattle.laws.proofs.StepsLaws.{keeps}
-use Rattle.laws.proofs.Prepared.{∂-forward, ∂-sorted, ∂-merging}
-use Rattle.laws.proofs.Cuts.{split-balanced}
-use Rattle.overlay.specs.Looks.{radius}
-use Rattle.demands.specs.Chain.{start, cut, next, Looks, empty, done, again}
+use Rattle.segm.specs.Forward.{forward}
+use Rattle.segm.specs.Balance.{Balanced}
+use Rattle.demands.specs.Chain.{cut, next}
 
 -- on both sides
 abbrev pub Even : List Segment → Type 0

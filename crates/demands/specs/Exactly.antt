@@ -1,21 +1,17 @@
 -- The looks settle exactly if their chain ends and no refusal 7 to 10 stands in the way of it ("Input and answer": none is given otherwise).
-use Rattle.std.specs.Prelude.{◌≡◌, Bool, ◌↔◌, ◌≢◌, eqb}
+use Rattle.std.specs.Prelude.{◌≡◌, Bool, ◌≢◌, eqb}
 use Rattle.std.proofs.Math.Path.{refl, ap}
-use Rattle.std.proofs.Common.{◌∙◌, arith}
-use Rattle.std.proofs.Math.Bool.{true, false}
-use mathlib.Core.List.{List, [], ◌∷◌, map}
-use Prim.Native.Nat.{ℕ, zero, suc, ◌+◌, ◌-◌}
+use Rattle.std.proofs.Common.{arith}
+use Rattle.std.proofs.Math.Bool.{false}
+use mathlib.Core.List.{List, [], ◌∷◌}
+use Prim.Native.Nat.{ℕ, suc}
 use Rattle.std.proofs.Math.ListN.{length}
 use borrow.Author.Tests.{eq-eqb, ne_eqb, le-ltb}
-use Rattle.whole.specs.Total.{clash}
 use Rattle.geom.specs.declared.Segment.{Segment}
-use Rattle.segm.specs.Forward.{forward, sorted}
-use Rattle.segm.specs.Merge.{merged, too_big}
 use Rattle.split.specs.declared.answer.Mark.{Mark}
-use Rattle.split.specs.Look.{look, tidy}
-use Rattle.overlay.specs.declared.answer.Answer.TheVariants.{Unsettled}
-use Rattle.overlay.specs.Looks.{Ran, settled, refused, radius, joined, look_at, looks_from, ran}
-use Rattle.demands.specs.Chain.{start, next, Looks, empty, done, again, Chain, Passes, Step, no_look, no_mark_lem, some_marks}
+use Rattle.split.specs.Look.{look}
+use Rattle.overlay.specs.Looks.{Ran, settled, radius, look_at}
+use Rattle.demands.specs.Chain.{next, Passes}
 
 -- looks at L until one yields no mark: so many with marks are allowed (10), and each of them passes
 pub data Allowed (room work : ℕ) : ℕ → List Segment → Type 0 where

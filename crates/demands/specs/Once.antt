@@ -2,22 +2,15 @@
 -- b are all different if the marks are and none is an end.
 use Rattle.std.specs.Prelude.{◌≡◌, Bool, cond, ◌≢◌, ℕ, ◌+◌, ◌≤◌}
 use Rattle.std.proofs.Math.Path.{refl}
-use Rattle.std.proofs.Common.{sym, ◌∙◌}
 use Rattle.std.proofs.Math.Bool.{true, false}
-use mathlib.Core.List.{List, [], ◌∷◌, ◌++◌, reverse, reverse_aux}
+use mathlib.Core.List.{List, [], ◌∷◌, reverse_aux}
 use native.Mathlib.Omega.{arith}
-use Rattle.std.specs.Int.Signed.{lt_z}
-use Rattle.whole.specs.Sorting.{sum, Perm}
-use Rattle.whole.proofs.SortingLaws.{sum_of-append}
-use Rattle.whole.specs.Sum.{All, none, also, Pairs, no_pair, pair}
-use Rattle.whole.proofs.SumLaws.{all_map}
+use Rattle.whole.specs.Sorting.{sum}
 use Rattle.geom.specs.declared.Point.{Point}
-use Rattle.geom.specs.declared.Segment.{Segment}
 use Rattle.geom.specs.Plane.{same_point, sameZ}
-use Rattle.geom.specs.Tests.{Decides, yes, no, holds, fails as refuted}
+use Rattle.geom.specs.Tests.{holds}
 use Rattle.geom.proofs.TestsLaws.{same_point?}
-use Rattle.plane.specs.NoEnd.{NoEnd}
-use Rattle.split.specs.Chain.{add_to, columns, next_y, last_of, chain_from, chain}
+use Rattle.split.specs.Chain.{add_to}
 
 -- how often x comes among points
 abbrev at : Point → Point → ℕ

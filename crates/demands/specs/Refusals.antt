@@ -1,29 +1,20 @@
 -- Which number a run answers: document 01's table ("Input and answer"). 1 to 6 in their order; 7 to 11 as the run meets them. `exactly` says of every number that it is
 -- answered exactly when no sentence tested before its own holds and its own does.
-use Rattle.std.specs.Prelude.{◌≡◌, Bool, true, false, cond, List, [], map, ◌↔◌, ◌≢◌, ◌⊎◌, eqb, ℤ, length}
-use Rattle.std.proofs.Math.Path.{refl, ap}
-use Rattle.std.proofs.Common.{sym, ◌∙◌, subst, inl, inr, ⊎_elim, arith}
-use Prim.Native.Nat.{ℕ, zero, suc, ◌-◌}
-use borrow.Author.Tests.{eq-eqb, ne_eqb, le-ltb}
+use Rattle.std.specs.Prelude.{◌≡◌, List, map, ◌≢◌, ℤ, length}
+use Prim.Native.Nat.{ℕ, suc, ◌-◌}
 use Rattle.whole.specs.Kind.{rows_from}
-use Rattle.whole.specs.Total.{same_or}
 use Rattle.geom.specs.declared.Segment.{Segment}
 use Rattle.geom.specs.Limits.{work_room, mark_room, scan_room}
 use Rattle.geom.specs.Rows.{segments}
-use Rattle.geom.specs.Tests.{Decides, yes, no, holds, fails}
 use Rattle.segm.specs.Forward.{forward, sorted}
-use Rattle.split.specs.Look.{look}
 use Rattle.checks.specs.declared.Settings.{Settings}
 use Rattle.checks.specs.declared.Fault.{Fault}
-use Rattle.checks.specs.declared.Fault.TheVariants.{Sound, Short, BadSettings, OffGrid, NoLength, BadCount, Open}
-use Rattle.checks.specs.Checks.{check_says, fault_of}
-use Rattle.checks.specs.Exactly.{Given, exactly as exactly-fault}
-use Rattle.overlay.specs.declared.answer.Answer.TheVariants.{ScanFull}
-use Rattle.overlay.specs.Looks.{Ran, settled, radius, joined, look_at, looks_from, ran}
-use Rattle.overlay.specs.Outcome.{Lent, Outcome, cleared, finished, swept, unless, outcome}
-use Rattle.overlay.specs.Table.{MarksOver, marks_over?, PiecesOver, pieces_over?, TotalLeaves, total_leaves?, StillMarks, still_marks?, TooManyLive, too_many_live?}
-use Rattle.demands.specs.Chain.{start, cut, next, Passes}
-use Rattle.demands.specs.Exactly.{count-some}
+use Rattle.checks.specs.declared.Fault.TheVariants.{Sound}
+use Rattle.checks.specs.Checks.{check_says}
+use Rattle.checks.specs.Exactly.{Given}
+use Rattle.overlay.specs.Outcome.{Lent}
+use Rattle.overlay.specs.Table.{MarksOver, PiecesOver, TotalLeaves, StillMarks, TooManyLive}
+use Rattle.demands.specs.Chain.{start, cut, next}
 
 -- ---- the table
 

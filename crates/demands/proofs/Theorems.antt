@@ -1,18 +1,15 @@
 -- The three demands, of every run that answers 0. `outcome input s l` is what document 01 says that a run returns and leaves in the lent lists l; m and looks are the
 -- numbers that come with answer 0, as they do in document 01's printed run (overlay/specs/Cases.antt); an edge is one of the first m segments of the work list. Each
 -- theorem names its place in document 01.
-use Rattle.std.specs.Prelude.{◌≡◌, true, false, List, map, ◌↔◌, ◌≢◌, ℕ, ◌-◌, ◌%◌, ◌<◌, ◌≤◌, ℤ, pos, ◌*ℤ◌, get_or, length, ◌<ℤ◌}
+use Rattle.std.specs.Prelude.{◌≡◌, true, false, List, map, ◌↔◌, ◌≢◌, ℕ, ◌-◌, ◌%◌, ◌<◌, ◌≤◌, ℤ, pos, ◌*ℤ◌, length, ◌<ℤ◌}
 use Rattle.std.proofs.Common.{sym, ap, ◌∙◌}
 use Rattle.whole.specs.Order.{zz}
-use Rattle.whole.specs.Kind.{row_at}
 use Rattle.whole.specs.Sum.{All, In}
 use Rattle.whole.proofs.SumLaws.{all_both, all_in}
-use Rattle.geom.specs.declared.Point.{Point}
 use Rattle.geom.specs.declared.Segment.{Segment}
-use Rattle.geom.specs.Plane.{Side, Before, by_x, by_y, count}
+use Rattle.geom.specs.Plane.{Side, Before, count}
 use Rattle.geom.specs.Off.{Off, On, EndOf, cross}
 use Rattle.geom.specs.Limits.{work_room}
-use Rattle.geom.specs.Rows.{segments}
 use Rattle.segm.specs.Forward.{forward as turned-forward, sorted}
 use Rattle.segm.specs.Merge.{too_big}
 use Rattle.segm.specs.Order.{EndsBefore}
@@ -49,7 +46,8 @@ use Rattle.demands.proofs.SettledLaws.{looks-settled, meet_at_ends}
 use Rattle.demands.specs.Answer.{given, edges, Answered}
 use Rattle.demands.proofs.AnswerLaws.{answered}
 use Rattle.demands.specs.Bytes.{top_bit, bottom_bit, kept_bit, byte_mask}
-use Rattle.demands.proofs.BytesLaws.{mask-top, mask-bottom, kept_is, signs_balanced}
+use Rattle.demands.proofs.BytesLaws.{mask-top, mask-bottom, kept_is}
+use Rattle.demands.proofs.SignsLaws.{signs_balanced}
 use Rattle.demands.proofs.PlacesLaws.{row_in, row-pair, row-byte}
 use Rattle.demands.specs.Theorems.{byte, edge, rises}
 
