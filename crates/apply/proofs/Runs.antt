@@ -17,7 +17,7 @@ use Rattle.whole.proofs.KindLaws.{rows_append}
 use Rattle.whole.specs.Sum.{keep}
 use Rattle.whole.proofs.SumLaws.{keep_append}
 use Rattle.whole.proofs.SignLaws.{lt_or_le}
-use Rattle.geom.specs.Plane.{sameZ, before}
+use Rattle.geom.specs.Plane.{sameZ}
 use Rattle.geom.specs.Tests.{when_true, when_false, fails, unless, lt?, same?}
 use Rattle.split.specs.declared.answer.Mark.{Mark}
 use Rattle.split.specs.Marks.{marks}

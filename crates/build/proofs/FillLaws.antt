@@ -1,15 +1,9 @@
 -- The sweep as a part of its own, in document 01's numbers: those of refusals 1 to 11 that its lists can meet, in order ("Input and answer", "How tight the
 -- promises are"), and what every lent list then holds.
-use Rattle.std.specs.Prelude.{◌≡◌, refl, Bool, cond, ◌||◌, List, [], ◌∷◌, ◌++◌, ℕ, ◌*◌, ltb, eqb, ℤ, pos, length, get_or, drop, replicate}
+use Rattle.std.specs.Prelude.{◌≡◌, refl, cond, [], ◌∷◌, ℕ, eqb, get_or}
 use Rattle.std.proofs.Common.{sym, ap, ◌∙◌}
-use Rattle.whole.specs.Kind.{rows_from}
-use Rattle.geom.specs.declared.Segment.{Segment}
-use Rattle.geom.specs.Limits.{segment_limit, scan_room}
-use Rattle.geom.specs.Rows.{segments}
 use Rattle.build.specs.declared.sweep.Filled.{Filled}
 use Rattle.build.specs.declared.sweep.Filled.TheVariants.{Done, Short, BadRule, OffGrid, NoLength, BadCount, ScanFull}
-use Rattle.faults.specs.Faults.{some, is_off, is_point, has_least}
-use Rattle.scan.specs.Masks.{bytes, crowded}
 use Rattle.build.specs.Fill.{number_of}
 
 -- ---- the number settles the case

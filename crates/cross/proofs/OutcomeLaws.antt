@@ -14,10 +14,9 @@ use Rattle.geom.specs.declared.Point.{Point}
 use Rattle.geom.specs.declared.Segment.{Segment}
 use Rattle.geom.specs.Plane.{GridPoint, GridSegment, sign_of, side_of, against}
 use Rattle.plane.specs.Apart.{o₁, o₂}
-use Rattle.plane.specs.Meeting.{Meeting, collinear, none, touching, crossing as through, meeting_by, meeting}
+use Rattle.plane.specs.Meeting.{collinear, none, touching, crossing as through, meeting_by, meeting}
 use Rattle.plane.specs.NoEnd.{NoEnd, NoZero, parted_no_zero, line_no_end}
 use Rattle.plane.proofs.NoEndLaws.{a_no_end, b_no_end}
-use Rattle.cross.specs.declared.answer.Crossing.{Crossing}
 use Rattle.cross.specs.declared.answer.Crossing.TheVariants.{Nothing}
 use Rattle.cross.specs.declared.answer.Kind.TheVariants.{Pure, TargetEnd, OtherEnd, Overlay}
 use Rattle.cross.specs.Cross.{found, on_line, on_both, far, nearer, reach, snapped, middle, cross_point, zero, origin, cross_by, crossing}

@@ -1,29 +1,17 @@
 -- What comes of any two segments, by how they meet, and for every radius: all on one line, overlaid; kept apart by the signs, nothing; otherwise a point that is
 -- an end of one or the middle point, and no end of a segment that it marks ("Crossing"). With at most one zero, no end of the segment that is marked lies on
 -- the other's line; in the middle no end does.
-use Rattle.std.specs.Prelude.{◌≡◌, Bool, cond, ◌||◌, ◌≢◌, ℕ, ◌+◌, ◌≤◌, ◌<◌, min, ltb, eqb, ℤ, pos, nat_abs, ◌-ℤ◌}
-use Rattle.std.proofs.Math.Path.{refl}
-use Rattle.std.proofs.Common.{ap, ◌∙◌, arith, eqb-true, leb-false, ltb-false}
-use Rattle.std.proofs.Math.Bool.{true, false}
-use Rattle.std.proofs.Math.Dec.{leb}
-use Rattle.std.proofs.lemmas.Bool.{eqb-false}
-use Rattle.whole.specs.Order.{zz, sub_is, split}
-use Rattle.whole.specs.Sign.{abs_is}
-use Rattle.whole.proofs.TestLaws.{and_l, and_r, neither}
+use Rattle.std.specs.Prelude.{Bool, cond}
+use Rattle.std.proofs.Math.Bool.{false}
 use Rattle.geom.specs.declared.Point.{Point}
 use Rattle.geom.specs.declared.Segment.{Segment}
-use Rattle.geom.specs.Plane.{GridPoint, GridSegment, sign_of, side_of, against}
-use Rattle.plane.specs.Apart.{o₁, o₂}
-use Rattle.plane.specs.Meeting.{Meeting, collinear, none, touching, crossing as through, meeting_by, meeting}
-use Rattle.plane.specs.NoEnd.{NoEnd, NoZero, parted_no_zero, line_no_end}
-use Rattle.plane.proofs.NoEndLaws.{a_no_end, b_no_end}
+use Rattle.plane.specs.Meeting.{Meeting, collinear, none, touching, crossing as through}
+use Rattle.plane.specs.NoEnd.{NoEnd}
 use Rattle.cross.specs.declared.answer.Crossing.{Crossing}
 use Rattle.cross.specs.declared.answer.Crossing.TheVariants.{Nothing}
 use Rattle.cross.specs.declared.answer.Kind.TheVariants.{Pure, TargetEnd, OtherEnd, Overlay}
-use Rattle.cross.specs.Cross.{found, on_line, on_both, far, nearer, reach, snapped, middle, cross_point, zero, origin, cross_by, crossing}
-use Rattle.cross.specs.Middle.{Middle, Sides}
-use Rattle.cross.specs.Sides.{ends, middle_of}
-use Rattle.middles.proofs.Boxes.{middle_on_grid}
+use Rattle.cross.specs.Cross.{found, cross_point, origin}
+use Rattle.cross.specs.Middle.{Middle}
 
 -- ---- where a mark can be: at an end of either, or at the middle point
 

@@ -2,19 +2,18 @@
 -- of e.a (A), below e just left of e.b (Z), first end in the region under e (S), second end there (E). Each of the four
 -- is a condition on x and, where that holds, the one answer of `Place e t`; the conditions alone satisfy A + S = Z + E
 -- (`tally`, over four comparisons). Summed with the weights, S and E cancel by balance over the region.
-use Rattle.std.specs.Prelude.{◌≡◌, refl, List, Bool, true, false, not, ◌&&◌, ℤ, pos, ◌+ℤ◌, ◌≤ℤ◌, ◌<ℤ◌}
+use Rattle.std.specs.Prelude.{◌≡◌, List, Bool, not, ◌&&◌, ℤ, ◌≤ℤ◌, ◌<ℤ◌}
 use Rattle.std.proofs.Common.{◌∙◌}
 use Rattle.std.proofs.Math.Path.{ap}
-use Rattle.std.proofs.Math.IntN.{+ℤ_comm}
 use Rattle.std.specs.Int.Signed.{le_z, lt_z}
 use Rattle.whole.specs.Order.{zz, add_is}
-use Rattle.whole.specs.Sum.{All, ind, Over, In}
+use Rattle.whole.specs.Sum.{All, Over, In}
 use Rattle.whole.proofs.SumLaws.{all_map, all_both, over-two}
 use Rattle.whole.specs.Test.{lt-true}
-use Rattle.whole.proofs.TestLaws.{of_true, and_l, and_r, and_same, lt_of, le_of, lt_not, le_not}
+use Rattle.whole.proofs.TestLaws.{and_l, and_r, and_same, lt_of, le_of, lt_not, le_not}
 use Rattle.geom.specs.declared.Point.{Point}
 use Rattle.geom.specs.declared.Segment.{Segment}
-use Rattle.geom.specs.Plane.{against, by_x, subject, clip}
+use Rattle.geom.specs.Plane.{by_x}
 use Rattle.segm.specs.Balance.{Balanced}
 use Rattle.edges.specs.Below.{alive}
 use Rattle.scan.specs.Masks.{bottom}

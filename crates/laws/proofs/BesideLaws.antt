@@ -9,7 +9,7 @@ use Rattle.std.proofs.Math.IntN.{pos, ◌+ℤ◌}
 use Rattle.std.specs.Int.Signed.{lt_z}
 use Rattle.whole.specs.Order.{zz, add_is, sub_is, neg_is}
 use Rattle.whole.proofs.SignLaws.{lt_or_le, le_by_contra, mul_pos, mul_nonneg, mul_nonneg_nonpos, mul_pos_neg, pos_right}
-use Rattle.whole.specs.Sum.{All, ind, In}
+use Rattle.whole.specs.Sum.{ind, In}
 use Rattle.whole.proofs.SumLaws.{all_of, all_map, all_both, over-same, over-one}
 use Rattle.plane.specs.Scaled.{scale-lt, unscale_lt}
 use Rattle.whole.specs.Test.{lt-true, lt-false, le-true, lt_gt, lt-eq_back}

@@ -10,7 +10,7 @@ use Rattle.std.proofs.Math.IntN.{*ℤ-zero}
 use Rattle.whole.specs.Order.{zz, sub_is}
 use Rattle.whole.specs.Ring.{reads}
 use Rattle.whole.proofs.RingLaws.{ring}
-use Rattle.whole.specs.Sum.{All, none, also, Sum, ind, Over}
+use Rattle.whole.specs.Sum.{All, none, also, ind, Over}
 use Rattle.whole.proofs.SumLaws.{all_map, sum_same, sum-sub, sum-scale, sum-zero}
 use Rattle.geom.specs.declared.Point.{Point}
 use Rattle.geom.specs.declared.Segment.{Segment}

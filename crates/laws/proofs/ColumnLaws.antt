@@ -1,10 +1,10 @@
 -- The column of a point p: right of it, just under p, run the edges that run left of it there, less the upright ones that
 -- reach p from below or pass it. An edge through the column counts on both sides; one that begins or ends in it begins or
 -- ends in the region { q : q.x = p.x, q.y < p.y }, whose first and second ends weigh the same.
-use Rattle.std.specs.Prelude.{◌≡◌, List, [], ◌∷◌, Bool, ◌&&◌, ℤ, pos, ◌+ℤ◌, ◌-ℤ◌, ◌*ℤ◌, ◌≤ℤ◌, ◌<ℤ◌}
+use Rattle.std.specs.Prelude.{◌≡◌, List, [], ◌∷◌, Bool, ℤ, pos, ◌+ℤ◌, ◌-ℤ◌, ◌*ℤ◌, ◌≤ℤ◌, ◌<ℤ◌}
 use Rattle.std.proofs.Common.{sym, ◌∙◌, ap}
 use Rattle.std.proofs.Math.IntN.{*ℤ-zero}
-use Rattle.std.specs.Int.Signed.{le_z, lt_z}
+use Rattle.std.specs.Int.Signed.{lt_z}
 use Rattle.whole.specs.Order.{zz, add_is, sub_is}
 use Rattle.whole.specs.Ring.{reads}
 use Rattle.whole.proofs.RingLaws.{ring}
@@ -15,7 +15,7 @@ use Rattle.whole.proofs.SumLaws.{all_map, over-three}
 use Rattle.whole.specs.Test.{lt-true, tests}
 use Rattle.geom.specs.declared.Point.{Point}
 use Rattle.geom.specs.declared.Segment.{Segment}
-use Rattle.geom.specs.Plane.{turn, against, sameZ, Before, by_x, by_y}
+use Rattle.geom.specs.Plane.{turn, against, Before, by_x, by_y}
 use Rattle.segm.specs.Balance.{Balanced}
 use Rattle.edges.specs.Below.{alive}
 use Rattle.laws.specs.Sides.{reaches}

@@ -3,7 +3,7 @@
 -- that start there below it; one that ends at p has for bottom B and the counts of those that end there below it (read at
 -- its right end, `both_ends`, and over the column, `columns`; an upright one at once). Both families telescope, from B
 -- to B with all that starts, or ends, at p: the same.
-use Rattle.std.specs.Prelude.{◌≡◌, List, [], ◌∷◌, true, ◌&&◌, ℤ, ◌+ℤ◌, ◌-ℤ◌, ◌<ℤ◌}
+use Rattle.std.specs.Prelude.{◌≡◌, List, [], ◌∷◌, true, ◌&&◌, ℤ, ◌+ℤ◌, ◌<ℤ◌}
 use Rattle.std.proofs.Math.Path.{sym, ap, fun_ext}
 use Rattle.std.proofs.Common.{◌∙◌}
 use Rattle.whole.specs.Order.{zz, add_is}

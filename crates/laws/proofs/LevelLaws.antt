@@ -1,6 +1,6 @@
 -- The level stretch from an upright edge e to a point P, scaled so that its ends are whole, as one more edge. Whatever has no point of it is apart from it.
 -- Whatever comes to e passes over or under all that lies strictly within e, as it does at e's ends (`pierced`).
-use Rattle.std.specs.Prelude.{◌≡◌, List, [], ◌∷◌, Bool, ℤ, pos, neg_ℤ, ◌+ℤ◌, ◌-ℤ◌, ◌*ℤ◌, ◌≤ℤ◌, ◌<ℤ◌}
+use Rattle.std.specs.Prelude.{◌≡◌, [], ◌∷◌, Bool, ℤ, pos, neg_ℤ, ◌+ℤ◌, ◌-ℤ◌, ◌*ℤ◌, ◌≤ℤ◌, ◌<ℤ◌}
 use Rattle.std.proofs.Common.{sym, ◌∙◌, ap, ⊎_elim}
 use Rattle.std.proofs.Math.IntN.{*ℤ-zero}
 use Rattle.std.specs.Int.Signed.{lt_z}
@@ -9,14 +9,13 @@ use Rattle.whole.specs.Ring.{reads}
 use Rattle.whole.proofs.RingLaws.{ring}
 use Rattle.whole.specs.Sign.{Tri, less, same, more}
 use Rattle.whole.proofs.SignLaws.{tri, lt_or_le, mul_pos, mul_pos_neg, pos_right, neg_right}
-use Rattle.whole.specs.Sum.{All}
 use Rattle.plane.specs.Scaled.{spot, scale-lt, scale-le, unscale_le, before_at}
 use Rattle.whole.specs.Test.{lt-true, lt_gt}
 use Rattle.geom.specs.declared.Point.{Point}
 use Rattle.geom.specs.declared.Segment.{Segment}
-use Rattle.geom.specs.Plane.{segment, turn, against, Before, by_x}
+use Rattle.geom.specs.Plane.{turn, against, Before, by_x}
 use Rattle.geom.specs.Off.{Off, cross, On, Within, rising, falling}
-use Rattle.plane.specs.Apart.{Apart, o₁, o₂}
+use Rattle.plane.specs.Apart.{o₁, o₂}
 use Rattle.edges.specs.Below.{lower}
 use Rattle.laws.specs.Points.{runs}
 use Rattle.laws.specs.Place.{Place, level, over_e, under_e, up_l, up_r, dn_l, dn_r, placed, lean_is, pull_dn, pull_dn', pull_up, pull_up', gap, weak}
@@ -28,7 +27,7 @@ use Rattle.laws.proofs.MidLaws.{drop}
 use Rattle.laws.specs.Foot.{u, v, foot, foot_on, foot-column, foot-height}
 use Rattle.laws.specs.Scale.{parted, scaled, down, factor, pos_scaled, against-scaled}
 use Rattle.laws.proofs.ScaleLaws.{on_down}
-use Rattle.laws.specs.Level.{Across, Free, Level, bridge, onto, right, left}
+use Rattle.laws.specs.Level.{Across, Free, bridge, onto, right, left}
 
 -- what stands in P's column and at its level is on the stretch
 reorder : (a b c : ℤ) → a *ℤ (b *ℤ c) ≡ b *ℤ (a *ℤ c)

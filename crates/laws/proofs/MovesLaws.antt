@@ -17,8 +17,8 @@ use Rattle.whole.specs.Test.{is_true, is_false}
 use Rattle.whole.proofs.TestLaws.{and_l, and_r, and_same, lt_of, le_of, eq_z_is}
 use Rattle.geom.specs.declared.Point.{Point}
 use Rattle.geom.specs.declared.Segment.{Segment}
-use Rattle.geom.specs.Plane.{turn, against, sameZ, Before}
-use Rattle.geom.specs.Off.{Off, cross, On, rising}
+use Rattle.geom.specs.Plane.{against, sameZ, Before}
+use Rattle.geom.specs.Off.{Off, cross, rising}
 use Rattle.plane.specs.Turns.{grid}
 use Rattle.plane.proofs.TurnsLaws.{cross-grid}
 use Rattle.segm.specs.Balance.{Balanced}
@@ -32,7 +32,6 @@ use Rattle.laws.proofs.ColumnLaws.{columns}
 use Rattle.laws.proofs.NodeLaws.{upright-zero}
 use Rattle.laws.specs.Foot.{le-scaled, lt-scaled, u, v, foot, foot_on, foot-column, foot-height}
 use Rattle.laws.specs.Scale.{one, on_start, on_finish, on_end, scaled, pos_scaled, alive_of, reaches_of}
-use Rattle.laws.specs.Level.{bridge}
 use Rattle.laws.proofs.LevelLaws.{lower-off, fair_to}
 use Rattle.laws.specs.Moves.{Misses, Through, grown_cross, stretch}
 

@@ -1,7 +1,7 @@
 -- Over a finite family with a strict total order, the rises of any g from the sum of what is lesser to that sum with the
 -- own count add up to the rise over all. A sorted list telescopes from its head: the head has nothing below it, and to
 -- all others it is one more count below. Sorting keeps every sum, and so both the family's sum and each sum of lessers.
-use Rattle.std.specs.Prelude.{◌≡◌, Bool, ◌⊎◌, ℤ, pos, ◌-ℤ◌, ◌*ℤ◌}
+use Rattle.std.specs.Prelude.{◌≡◌, Bool, ℤ, pos, ◌-ℤ◌, ◌*ℤ◌}
 use Rattle.std.proofs.Math.Path.{refl, sym, ap, ap₂, fun_ext}
 use Rattle.std.proofs.Common.{◌∙◌, inl, inr}
 use mathlib.Core.List.{List, [], ◌∷◌}

@@ -2,27 +2,17 @@
 -- of e.a (A), below e just left of e.b (Z), first end in the region under e (S), second end there (E). Each of the four
 -- is a condition on x and, where that holds, the one answer of `Place e t`; the conditions alone satisfy A + S = Z + E
 -- (`tally`, over four comparisons). Summed with the weights, S and E cancel by balance over the region.
-use Rattle.std.specs.Prelude.{◌≡◌, refl, List, Bool, true, false, not, ◌&&◌, ℤ, pos, ◌+ℤ◌, ◌≤ℤ◌, ◌<ℤ◌}
-use Rattle.std.proofs.Common.{◌∙◌}
-use Rattle.std.proofs.Math.Path.{ap}
+use Rattle.std.specs.Prelude.{◌≡◌, refl, Bool, true, false, not, ◌&&◌, pos, ◌+ℤ◌, ◌≤ℤ◌, ◌<ℤ◌}
 use Rattle.std.proofs.Math.IntN.{+ℤ_comm}
-use Rattle.std.specs.Int.Signed.{le_z, lt_z}
-use Rattle.whole.specs.Order.{zz, add_is}
-use Rattle.whole.specs.Sum.{All, ind, Over, In}
-use Rattle.whole.proofs.SumLaws.{all_map, all_both, over-two}
-use Rattle.whole.specs.Test.{lt-true}
-use Rattle.whole.proofs.TestLaws.{of_true, and_l, and_r, and_same, lt_of, le_of, lt_not, le_not}
+use Rattle.std.specs.Int.Signed.{lt_z}
+use Rattle.whole.specs.Sum.{ind}
+use Rattle.whole.proofs.TestLaws.{of_true}
 use Rattle.geom.specs.declared.Point.{Point}
 use Rattle.geom.specs.declared.Segment.{Segment}
-use Rattle.geom.specs.Plane.{against, by_x, subject, clip}
-use Rattle.segm.specs.Balance.{Balanced}
-use Rattle.edges.specs.Below.{alive}
-use Rattle.scan.specs.Masks.{bottom}
-use Rattle.laws.specs.Sides.{reaches, below_end, bottom-end}
-use Rattle.laws.specs.Points.{runs}
-use Rattle.laws.specs.Place.{Place, left_A, right-Z, left-S, right-E}
-use Rattle.laws.specs.Settled.{Settled, place_in}
-use Rattle.laws.specs.Below.{lower_at, bottom_is}
+use Rattle.geom.specs.Plane.{against}
+use Rattle.laws.specs.Sides.{below_end}
+use Rattle.laws.specs.Place.{Place}
+use Rattle.laws.specs.Below.{lower_at}
 
 -- the open strip of e, under e
 unfoldable pub beneath : Segment → Point → Bool

@@ -2,21 +2,18 @@
 -- It vanishes for every φ exactly where the list is balanced. One way: take the φ that are 1 at one point and 0 elsewhere.
 -- The other: to clear φ at a point p is to take away φ p times such a function, which keeps ∂; once φ is cleared at all
 -- the ends of L nothing is left.
-use Rattle.std.specs.Prelude.{◌≡◌, Bool, true, false, ◌↔◌, ℤ, pos, ◌-ℤ◌, ◌*ℤ◌}
-use Rattle.std.proofs.Math.Path.{refl, ap}
-use Rattle.std.proofs.Common.{sym, ◌∙◌, ap₂}
+use Rattle.std.specs.Prelude.{◌≡◌, Bool, ℤ, pos, ◌-ℤ◌, ◌*ℤ◌}
+use Rattle.std.proofs.Common.{◌∙◌}
 use mathlib.Core.List.{List, [], ◌∷◌}
-use Rattle.std.proofs.Math.IntN.{*ℤ-zero}
 use Rattle.whole.specs.Order.{zz, sub_is}
 use Rattle.whole.specs.Ring.{reads}
 use Rattle.whole.proofs.RingLaws.{ring}
-use Rattle.whole.specs.Sum.{All, none, also, Sum, ind, Over}
-use Rattle.whole.proofs.SumLaws.{all_map, sum_same, sum-sub, sum-scale, sum-zero}
+use Rattle.whole.specs.Sum.{Sum, ind, Over}
+use Rattle.whole.proofs.SumLaws.{sum_same, sum-sub}
 use Rattle.geom.specs.declared.Point.{Point}
 use Rattle.geom.specs.declared.Segment.{Segment}
 use Rattle.geom.specs.Plane.{same_point}
 use Rattle.segm.specs.Balance.{starting, ending, Balanced}
-use Rattle.laws.specs.Points.{point_of, point-yes}
 
 -- what a segment from p to q of weight c gives
 unfoldable pub flow : (Point → ℤ) → ℤ → Point → Point → ℤ

@@ -2,23 +2,18 @@
 -- straight up from below the first. Transitivity is one identity with the offsets in x as weights; two edges of a settled
 -- list that share an end are not in line.
 use Rattle.std.specs.Prelude.{◌≡◌, [], ◌∷◌, true, ◌⊎◌, ℤ, pos, ◌+ℤ◌, ◌-ℤ◌, ◌*ℤ◌, ◌≤ℤ◌, ◌<ℤ◌}
-use Rattle.std.proofs.Common.{sym, ◌∙◌, ap, subst, inl, inr}
+use Rattle.std.proofs.Common.{inl, inr}
 use Rattle.std.specs.Int.Signed.{lt_z}
-use Rattle.whole.specs.Order.{zz, add_is, sub_is, neg_is}
+use Rattle.whole.specs.Order.{zz, add_is, neg_is}
 use Rattle.whole.specs.Ring.{reads}
 use Rattle.whole.proofs.RingLaws.{ring}
 use Rattle.whole.specs.Sign.{Tri, less, same, more}
 use Rattle.whole.proofs.SignLaws.{tri, mul_pos, mul_nonneg, pos_right}
-use Rattle.whole.specs.Test.{lt-true, tests}
-use Rattle.whole.proofs.TestLaws.{lt_of}
+use Rattle.whole.specs.Test.{lt-true}
 use Rattle.geom.specs.declared.Point.{Point}
-use Rattle.geom.specs.declared.Segment.{Segment}
-use Rattle.geom.specs.Plane.{turn, against, Before}
-use Rattle.plane.proofs.TurnsLaws.{turn_self, turn_end, turn_cyclic, turn-swap}
-use Rattle.plane.specs.Apart.{UpTo, OneZero, Apart, in_line_lem, off_e, off_f, at_ends, o₁, o₂}
-use Rattle.laws.specs.Points.{never_upto, runs}
-use Rattle.laws.specs.Telescope.{Strict, Told}
-use Rattle.laws.specs.Node.{start-lt, end_lt}
+use Rattle.geom.specs.Plane.{turn}
+use Rattle.plane.proofs.TurnsLaws.{turn-swap}
+use Rattle.plane.specs.Apart.{OneZero}
 
 pub fan : (p x y z : Point) → (y.x.0 -ℤ p.x.0) *ℤ turn p x z ≡ (z.x.0 -ℤ p.x.0) *ℤ turn p x y +ℤ (x.x.0 -ℤ p.x.0) *ℤ turn p y z
 unfolding turn

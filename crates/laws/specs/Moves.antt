@@ -1,34 +1,16 @@
 -- The count of a ray is the same at two points that a straight stretch joins which no edge meets. Scaled by the product of their d the stretch has whole
 -- ends, and is one more edge S of weight 0, apart from all others: the sum is the same at both of its ends (`along`), where it is the ray's count.
-use Rattle.std.specs.Prelude.{◌≡◌, List, [], ◌∷◌, true, false, ℤ, pos, ◌+ℤ◌, ◌*ℤ◌, ◌≤ℤ◌, ◌<ℤ◌}
-use Rattle.std.proofs.Math.Path.{refl, ap, ap₂}
-use Rattle.std.proofs.Common.{sym, ◌∙◌, subst}
-use Rattle.std.proofs.Math.Bool.{Bool, ◌&&◌}
-use Rattle.std.proofs.Math.IntN.{*ℤ_comm}
-use Rattle.std.specs.Int.Signed.{le_z, lt_z}
-use Rattle.whole.specs.Order.{zz, add_is, sub_is}
+use Rattle.std.specs.Prelude.{◌≡◌, List, [], ◌∷◌, ℤ, ◌*ℤ◌, ◌<ℤ◌}
 use Rattle.whole.specs.Ring.{reads}
 use Rattle.whole.proofs.RingLaws.{ring}
-use Rattle.whole.proofs.SignLaws.{mul_pos}
-use Rattle.whole.specs.Sum.{All, Over}
-use Rattle.whole.proofs.SumLaws.{all_of, all_map, all_both, over-same, over_none}
-use Rattle.plane.specs.Scaled.{at, spot, before_at}
-use Rattle.whole.specs.Test.{is_true, is_false}
-use Rattle.whole.proofs.TestLaws.{and_l, and_r, and_same, lt_of, le_of, eq_z_is}
+use Rattle.whole.specs.Sum.{All}
+use Rattle.plane.specs.Scaled.{at, spot}
 use Rattle.geom.specs.declared.Point.{Point}
 use Rattle.geom.specs.declared.Segment.{Segment}
-use Rattle.geom.specs.Plane.{turn, against, sameZ, Before}
-use Rattle.geom.specs.Off.{Off, cross, On, rising}
-use Rattle.plane.specs.Turns.{grid}
-use Rattle.plane.proofs.TurnsLaws.{cross-grid}
+use Rattle.geom.specs.Plane.{turn, against, Before}
+use Rattle.geom.specs.Off.{Off, cross, On}
 use Rattle.segm.specs.Balance.{Balanced}
-use Rattle.edges.specs.Below.{alive, lean}
-use Rattle.laws.specs.Sides.{reaches, below_end}
-use Rattle.laws.specs.Ray.{alive_at, crossed, ray}
-use Rattle.laws.specs.Below.{lower_at}
-use Rattle.laws.specs.Column.{under-right, under_left, upto}
-use Rattle.laws.specs.Foot.{le-scaled, lt-scaled, u, v, foot, foot_on, foot-column, foot-height}
-use Rattle.laws.specs.Scale.{one, on_start, on_finish, on_end, scaled, pos_scaled, alive_of, reaches_of}
+use Rattle.laws.specs.Scale.{scaled}
 use Rattle.laws.specs.Level.{bridge}
 
 -- ---- a point off the grid, brought to the scale k

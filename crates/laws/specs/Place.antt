@@ -17,7 +17,6 @@ use Rattle.geom.specs.Plane.{turn}
 use Rattle.plane.proofs.TurnsLaws.{turn_self, turn_end}
 use Rattle.plane.specs.Apart.{Apart, in_line_lem, off_e, off_f, at_ends, o₁, o₂}
 use Rattle.edges.specs.Below.{lean, lower}
-use Rattle.laws.specs.Points.{runs}
 
 -- ---- where t stands to e
 pub data Place (e t : Segment) : Bool → Type 0 where

@@ -1,21 +1,13 @@
 -- What a run does to a list keeps its boundary, for every weight and every φ: to turn a segment and negate its weight, to cut
 -- it into a chain of pieces that are turned as needed, to add the weights of equal segments, to drop a segment of
 -- weight 0, to rearrange. So a list that is made so of a balanced one is balanced (`keeps`).
-use Rattle.std.specs.Prelude.{◌≡◌, refl, List, [], ◌∷◌, ◌++◌, map, ℤ, pos, neg_ℤ}
-use Rattle.std.proofs.Math.Path.{sym, ap, ap₂}
-use Rattle.std.proofs.Common.{◌∙◌}
+use Rattle.std.specs.Prelude.{◌≡◌, List, [], ◌∷◌, ℤ, neg_ℤ}
 use Rattle.std.proofs.Math.IntN.{◌+ℤ◌}
 use Rattle.whole.specs.Ring.{reads}
 use Rattle.whole.proofs.RingLaws.{ring}
-use Rattle.whole.specs.Sorting.{Perm}
-use Rattle.whole.specs.Sum.{Sum}
-use Rattle.whole.proofs.SumLaws.{assoc, sum-append, sum-map, sum_same, sum-perm}
 use Rattle.geom.specs.declared.Point.{Point}
 use Rattle.geom.specs.declared.Segment.{Segment}
-use Rattle.geom.specs.Plane.{Side, count, subject, clip, turned}
-use Rattle.segm.specs.Balance.{Balanced}
-use Rattle.segm.specs.Order.{SameEnds}
-use Rattle.laws.specs.Boundary.{flow, ∂}
+use Rattle.laws.specs.Boundary.{flow}
 
 -- ---- one segment
 pub flow-turn : (φ : Point → ℤ) (c : ℤ) (p q : Point) → flow φ (neg_ℤ c) q p ≡ flow φ c p q

@@ -1,17 +1,13 @@
 -- Over a finite family with a strict total order, the rises of any g from the sum of what is lesser to that sum with the
 -- own count add up to the rise over all. A sorted list telescopes from its head: the head has nothing below it, and to
 -- all others it is one more count below. Sorting keeps every sum, and so both the family's sum and each sum of lessers.
-use Rattle.std.specs.Prelude.{◌≡◌, Bool, ◌⊎◌, ℤ, pos, ◌-ℤ◌, ◌*ℤ◌}
-use Rattle.std.proofs.Math.Path.{refl, sym, ap, ap₂, fun_ext}
-use Rattle.std.proofs.Common.{◌∙◌, inl, inr}
+use Rattle.std.specs.Prelude.{◌≡◌, Bool, ◌⊎◌, ℤ, ◌-ℤ◌}
 use mathlib.Core.List.{List, [], ◌∷◌}
 use Rattle.std.proofs.Math.Bool.{true, false}
 use Rattle.std.proofs.Math.IntN.{◌+ℤ◌}
 use Rattle.whole.specs.Ring.{reads}
 use Rattle.whole.proofs.RingLaws.{ring}
-use Rattle.whole.specs.Sum.{All, none, also, Pairs, no_pair, pair, Sum, ind, Over}
-use Rattle.whole.proofs.SumLaws.{assoc, add-zero, times_none, all_map, all_both, sum_on, sum_same, sum-zero}
-use Rattle.whole.proofs.TestLaws.{of_true}
+use Rattle.whole.specs.Sum.{Over}
 
 -- counts of several areas, one for each i: what stands below is a number for each. The rise of g at the counts u over P
 unfoldable pub rise : {I : Type 0} → ((I → ℤ) → ℤ) → (I → ℤ) → (I → ℤ) → ℤ

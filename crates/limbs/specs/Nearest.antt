@@ -1,5 +1,5 @@
 -- What the nearest quotient is, and how large it can be.
-use Rattle.std.specs.Prelude.{◌≡◌, ℕ, ◌+◌, ◌*◌, ◌/◌, ◌^◌, ◌≤◌, ◌<◌}
+use Rattle.std.specs.Prelude.{◌≡◌, ℕ, ◌+◌, ◌*◌, ◌^◌, ◌≤◌, ◌<◌}
 use Rattle.std.proofs.Common.{div-lt_iff_lt-mul, div-mul-le_self, mul-le-mul_right, arith, lt-ltb, le-ltb, ne_eqb}
 use Rattle.std.proofs.Math.Nat.{div-eq_of_lt-le, lt-div-mul-add}
 use Rattle.limbs.specs.Limbs.{rounded_of, nearest_of}

@@ -1,5 +1,5 @@
 -- Document 01's number, m and looks of each answer ("Input and answer"): every refusal returns zero segments and zero looks.
-use Rattle.std.specs.Prelude.{◌≡◌, refl, [], ◌∷◌, ℕ, get_or}
+use Rattle.std.specs.Prelude.{◌≡◌, refl, [], ◌∷◌, get_or}
 use Rattle.std.proofs.Common.{sym, ap, ◌∙◌}
 use Rattle.overlay.specs.declared.answer.Answer.{Answer}
 use Rattle.overlay.specs.declared.answer.Answer.TheVariants.{Settled, Short, BadSettings, OffGrid, NoLength, BadCount, Open, MarksFull, WorkFull, TooBig, Unsettled, ScanFull}

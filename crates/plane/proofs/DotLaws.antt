@@ -1,14 +1,8 @@
 -- Along one line the order of points is the sign of the dot product, by which cross_solver.rs finds the ends inside the other segment.
-use Rattle.std.specs.Prelude.{◌≡◌, [], ◌∷◌, ◌↔◌, ℤ, pos, neg_ℤ, ◌+ℤ◌, ◌-ℤ◌, ◌*ℤ◌, ◌<ℤ◌}
-use Rattle.std.proofs.Common.{sym, ◌∙◌, ap}
-use Rattle.whole.specs.Order.{zz, add_is, sub_is, neg_is}
-use Rattle.whole.specs.Ring.{reads}
-use Rattle.whole.proofs.RingLaws.{ring}
-use Rattle.whole.proofs.SignLaws.{mul_pos, sq_nonneg, pos_right}
+use Rattle.std.specs.Prelude.{◌≡◌, ◌↔◌, pos, ◌<ℤ◌}
 use Rattle.geom.specs.declared.Point.{Point}
 use Rattle.geom.specs.declared.Segment.{Segment}
-use Rattle.geom.specs.Plane.{Before, by_x, by_y, turn, against}
-use Rattle.geom.specs.Order.{Order, sooner, equal, later, order}
+use Rattle.geom.specs.Plane.{Before, against}
 use Rattle.plane.proofs.TurnsLaws.{turn_self, turn_end}
 use Rattle.plane.specs.Pierce.{Inside}
 use Rattle.plane.specs.Dot.{dot, dot-order}

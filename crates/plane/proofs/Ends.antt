@@ -8,7 +8,7 @@ use Rattle.whole.proofs.RingLaws.{ring}
 use Rattle.whole.proofs.SignLaws.{lt_or_le, mul_pos, mul_nonneg, mul_pos_neg, mul_nonneg_nonpos, zero_product}
 use Rattle.geom.specs.declared.Point.{Point}
 use Rattle.geom.specs.declared.Segment.{Segment}
-use Rattle.geom.specs.Plane.{Before, turn}
+use Rattle.geom.specs.Plane.{Before}
 use Rattle.geom.specs.Off.{Off, cross, On, Is, EndOf}
 use Rattle.geom.specs.Order.{before_irr, before-trans}
 use Rattle.plane.specs.Apart.{UpTo, OneSide, OneZero, o₁, o₂, Apart, in_line_lem, off_e, off_f, at_ends}

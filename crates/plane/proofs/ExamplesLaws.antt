@@ -1,7 +1,6 @@
 -- Small pairs, some of document 01, computed: the definitions say what they should, and the hypotheses of the theorems can be met.
-use Rattle.std.specs.Prelude.{◌≡◌, refl, true, false, ℕ, pos, negsuc}
+use Rattle.std.specs.Prelude.{◌≡◌, refl, true, false, ℕ, pos}
 use Rattle.std.proofs.Common.{ap, ⊎_elim}
-use Rattle.std.specs.Int.Signed.{quot_z}
 use Rattle.whole.specs.Order.{zz}
 use Rattle.geom.specs.declared.Point.{Point}
 use Rattle.geom.specs.declared.Segment.{Segment}
@@ -14,7 +13,6 @@ use Rattle.plane.proofs.Ends.{apart-ends}
 use Rattle.plane.specs.Exactly.{Meets}
 use Rattle.plane.proofs.ExactlyLaws.{apart_or_meets}
 use Rattle.plane.specs.Unmarked.{unmarked}
-use Rattle.plane.specs.Quotients.{nearest}
 
 -- from (p, q) to (r, s)
 abbrev seg : ℕ → ℕ → ℕ → ℕ → Segment

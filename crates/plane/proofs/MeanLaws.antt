@@ -1,19 +1,10 @@
 -- A mean of a segment's ends lies on the segment: P = v a + u b over u + v. So a common point is shown by its weights on both segments, with no box at hand.
 -- The crossing of e with the line of f has the turns themselves for weights: o₂ f e · e.a - o₁ f e · e.b = o₁ e f · f.b - o₂ e f · f.a, over o₂ f e - o₁ f e = o₁ e f - o₂ e f.
-use Rattle.std.specs.Prelude.{◌≡◌, refl, [], ◌∷◌, ℤ, pos, neg_ℤ, ◌+ℤ◌, ◌-ℤ◌, ◌*ℤ◌, ◌≤ℤ◌, ◌<ℤ◌}
-use Rattle.std.proofs.Common.{sym, ◌∙◌, ap, subst, inl, inr, ⊎_elim}
-use Rattle.whole.specs.Order.{zz, add_is, sub_is, neg_is}
-use Rattle.whole.specs.Ring.{reads}
-use Rattle.whole.proofs.RingLaws.{ring}
-use Rattle.whole.proofs.SignLaws.{lt_or_le, mul_nonneg}
-use Rattle.geom.specs.declared.Point.{Point}
+use Rattle.std.specs.Prelude.{ℤ, pos, ◌+ℤ◌, ◌*ℤ◌, ◌<ℤ◌}
+use Rattle.whole.specs.Order.{zz, add_is}
 use Rattle.geom.specs.declared.Segment.{Segment}
-use Rattle.geom.specs.Plane.{Before, turn}
-use Rattle.geom.specs.Off.{Off, cross, Within, rising, falling, On, EndOf}
-use Rattle.geom.specs.Order.{before_irr}
-use Rattle.plane.specs.Apart.{o₁, o₂}
-use Rattle.plane.specs.Scaled.{at, spot, of_is}
-use Rattle.plane.specs.Turns.{coords}
+use Rattle.geom.specs.Plane.{Before}
+use Rattle.geom.specs.Off.{Off}
 use Rattle.plane.specs.Weights.{Weights}
 use Rattle.plane.proofs.WeightsLaws.{after_a, before_b}
 use Rattle.plane.specs.Mean.{Inner, Mean, one_way}

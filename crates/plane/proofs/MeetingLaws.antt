@@ -1,11 +1,11 @@
 -- What the four signs make of a pair, said as document 01 says it, by counting zeros ("Crossing"); and what each answer says of the four turns.
-use Rattle.std.specs.Prelude.{◌≡◌, refl, Bool, true, false, cond, ◌||◌, ◌⊎◌, ℕ, ◌+◌, ◌%◌, eqb, ltb, ℤ, pos, ◌<ℤ◌}
+use Rattle.std.specs.Prelude.{◌≡◌, refl, Bool, true, false, cond, ◌||◌, ℕ, ◌+◌, ◌%◌, eqb, ℤ, pos}
 use Rattle.std.proofs.Common.{inl, inr, arith}
 use Rattle.std.specs.Int.Signed.{lt_z}
 use Rattle.whole.specs.Order.{zz, lt-true, lt-false}
 use Rattle.geom.specs.declared.Segment.{Segment}
 use Rattle.geom.specs.Plane.{Before, sign_of, side_of}
-use Rattle.plane.specs.Apart.{OneSide, OneZero, o₁, o₂, Apart, off_e, off_f, at_ends}
+use Rattle.plane.specs.Apart.{OneSide, OneZero, o₁, o₂, off_e, off_f, at_ends}
 use Rattle.plane.proofs.TurnsLaws.{level-both}
 use Rattle.plane.specs.Meeting.{Case, Parted, Sign, by_count, meeting, meeting_by, under, level, over, all_zero, clear, end_of_f, end_of_e, through}
 

@@ -1,16 +1,8 @@
 -- No mark is an end of the segment that it marks: an end inside the other is not one of its ends; where no turn is zero,
 -- a point on both lines is an end of neither, and no end of one is an end of the other.
-use Rattle.std.specs.Prelude.{◌≡◌, ◌≢◌, ℤ, pos}
-use Rattle.std.proofs.Common.{sym, ◌∙◌, ap, subst, inl, inr}
-use Rattle.whole.specs.Order.{zz}
-use Rattle.geom.specs.declared.Point.{Point}
 use Rattle.geom.specs.declared.Segment.{Segment}
-use Rattle.geom.specs.Plane.{Before, against}
-use Rattle.geom.specs.Order.{before_irr}
 use Rattle.plane.specs.Apart.{o₁, o₂}
 use Rattle.plane.proofs.TurnsLaws.{turn_self, turn_end}
-use Rattle.plane.specs.Meeting.{Parted}
-use Rattle.plane.specs.Pierce.{Inside}
 use Rattle.plane.specs.NoEnd.{NoEnd, NoZero, line_no_end}
 
 -- so an end of f is no end of e

@@ -1,14 +1,14 @@
 -- Document 01's answer to a pair: does a look yield no mark ("Crossing", "Collinear")? For different segments that is `Apart`.
-use Rattle.std.specs.Prelude.{Bool, true, false, not, ◌||◌, ◌⊎◌, ◌↔◌, ◌≡◌, T, pos}
+use Rattle.std.specs.Prelude.{◌↔◌, ◌≡◌, T, pos}
 use Rattle.std.proofs.Common.{inl, inr, ⊎_elim}
 use Rattle.geom.specs.declared.Point.{Point}
 use Rattle.geom.specs.declared.Segment.{Segment}
-use Rattle.geom.specs.Plane.{Before, between}
+use Rattle.geom.specs.Plane.{Before}
 use Rattle.geom.specs.Tests.{Decides, yes, no, said}
 use Rattle.geom.proofs.TestsLaws.{between?}
 use Rattle.whole.specs.Decide.{or, opposite, test_is}
 use Rattle.plane.specs.Apart.{Apart, o₁, o₂}
-use Rattle.plane.specs.Meeting.{Meeting, collinear, none, touching, crossing, meeting, Case, all_zero, clear, end_of_f, end_of_e, through}
+use Rattle.plane.specs.Meeting.{Meeting, Case, all_zero, clear, end_of_f, end_of_e, through}
 use Rattle.plane.proofs.MeetingLaws.{case}
 use Rattle.plane.specs.Pierce.{Inside, Touch, a_of_f, b_of_f, a_of_e, b_of_e, Different}
 use Rattle.plane.proofs.PierceLaws.{touch_sym, touched, crossed, lined_up}

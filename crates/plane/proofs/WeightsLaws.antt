@@ -10,7 +10,7 @@ use Rattle.whole.proofs.SignLaws.{lt_or_le, mul_pos}
 use Rattle.geom.specs.declared.Point.{Point}
 use Rattle.geom.specs.declared.Segment.{Segment}
 use Rattle.geom.specs.Plane.{Before, by_x, by_y, turn, against}
-use Rattle.geom.specs.Off.{Off, cross, Within, rising, falling, On, Is}
+use Rattle.geom.specs.Off.{Off, cross, Within, On, Is}
 use Rattle.plane.specs.Scaled.{at, spot, of_is, scale-lt, unscale, step}
 use Rattle.plane.specs.Apart.{UpTo, o₁, o₂}
 use Rattle.plane.specs.Weights.{Shares, Weights, lead_low, mean}

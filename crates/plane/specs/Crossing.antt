@@ -1,18 +1,8 @@
 -- The middle point. Every point common to the two lines has the offsets o₁ f e · (e.b - e.a) / (o₁ f e - o₂ f e) from e.a: that is the fraction of document 01's
 -- "Middle point", with e the target. So the offsets rounded by less than 1 give a point in both boxes, whichever way the segments run: nothing strict is needed.
-use Rattle.std.specs.Prelude.{◌≡◌, [], ◌∷◌, ℤ, pos, ◌+ℤ◌, ◌-ℤ◌, ◌*ℤ◌, ◌≤ℤ◌, ◌<ℤ◌}
-use Rattle.std.proofs.Common.{◌∙◌, ap, ap₂}
-use Rattle.whole.specs.Order.{zz, add_is, sub_is}
-use Rattle.whole.specs.Ring.{reads}
-use Rattle.whole.proofs.RingLaws.{ring}
+use Rattle.std.specs.Prelude.{ℤ, ◌≤ℤ◌}
 use Rattle.geom.specs.declared.Point.{Point}
 use Rattle.geom.specs.declared.Segment.{Segment}
-use Rattle.geom.specs.Plane.{point, turn}
-use Rattle.geom.specs.Off.{Off, cross, Within, rising, falling, On}
-use Rattle.plane.specs.Apart.{o₁, o₂}
-use Rattle.plane.specs.Turns.{coords}
-use Rattle.plane.specs.Pierce.{Crossed}
-use Rattle.plane.specs.Round.{Near, Rounded}
 
 -- ---- the boxes
 pub data Span (p q t : ℤ) : Type 0 where

@@ -9,7 +9,6 @@ use Rattle.geom.specs.declared.Point.{Point}
 use Rattle.geom.specs.declared.Segment.{Segment}
 use Rattle.geom.specs.Plane.{Before, by_x, by_y, turn, against}
 use Rattle.geom.specs.Order.{Order, sooner, equal, later, order}
-use Rattle.plane.specs.Pierce.{Inside}
 
 -- the step from p to q along e
 abbrev pub dot : Segment → Point → Point → ℤ

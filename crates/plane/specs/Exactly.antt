@@ -1,19 +1,13 @@
 -- Apart, exactly if every common point is an end of both. Forwards by `apart-ends`; backwards, a pair that is not apart crosses or touches,
 -- and then has a common point inside one of the two: the crossing, or the end that touches, over the width of the other (its height, if upright).
-use Rattle.std.specs.Prelude.{◌≡◌, [], ◌∷◌, ◌⊎◌, ◌↔◌, ℤ, pos, ◌+ℤ◌, ◌-ℤ◌, ◌*ℤ◌, ◌≤ℤ◌, ◌<ℤ◌}
-use Rattle.std.proofs.Common.{inl, inr, ⊎_elim}
-use Rattle.whole.specs.Order.{zz, add_is, sub_is}
-use Rattle.whole.specs.Ring.{reads}
-use Rattle.whole.proofs.RingLaws.{ring}
+use Rattle.std.specs.Prelude.{◌≡◌, ◌≤ℤ◌}
+use Rattle.whole.specs.Order.{zz}
 use Rattle.geom.specs.declared.Point.{Point}
 use Rattle.geom.specs.declared.Segment.{Segment}
-use Rattle.geom.specs.Plane.{Before, by_x, by_y, turn, against}
+use Rattle.geom.specs.Plane.{Before, by_x, by_y}
 use Rattle.geom.specs.Off.{Off, On, EndOf}
 use Rattle.plane.specs.Apart.{Apart}
-use Rattle.plane.specs.Scaled.{before_at}
-use Rattle.plane.specs.Mean.{Inner, mean_on, inner_no_end}
-use Rattle.plane.specs.Meeting.{Meeting, Case, all_zero, clear, end_of_f, end_of_e, through}
-use Rattle.plane.specs.Pierce.{Inside, Touch, a_of_f, b_of_f, a_of_e, b_of_e, Crossed, Different}
+use Rattle.plane.specs.Pierce.{Touch, Crossed}
 
 -- ---- a pair is apart, touches or crosses
 pub data Sorted (e f : Segment) : Type 0 where

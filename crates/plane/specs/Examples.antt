@@ -1,16 +1,10 @@
 -- Small pairs, some of document 01, computed: the definitions say what they should, and the hypotheses of the theorems can be met.
 use Rattle.std.specs.Prelude.{◌≡◌, refl, true, false, ℕ, pos, negsuc}
-use Rattle.std.proofs.Common.{ap, ⊎_elim}
 use Rattle.std.specs.Int.Signed.{quot_z}
-use Rattle.whole.specs.Order.{zz}
-use Rattle.geom.specs.declared.Point.{Point}
 use Rattle.geom.specs.declared.Segment.{Segment}
-use Rattle.geom.specs.Plane.{point, segment, by_x, turn, side_of, before, between, same_point}
-use Rattle.geom.specs.Off.{Off, On, EndOf}
-use Rattle.geom.specs.Tests.{when_true, when_false}
-use Rattle.plane.specs.Apart.{apart, apart?}
-use Rattle.plane.specs.Meeting.{collinear, none, touching, crossing, meeting_by, meeting}
-use Rattle.plane.specs.Exactly.{Meets}
+use Rattle.geom.specs.Plane.{point, segment, turn, side_of, before, between, same_point}
+use Rattle.plane.specs.Apart.{apart}
+use Rattle.plane.specs.Meeting.{meeting_by}
 use Rattle.plane.specs.Unmarked.{unmarked}
 use Rattle.plane.specs.Quotients.{nearest}
 

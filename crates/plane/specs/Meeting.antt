@@ -1,11 +1,8 @@
 -- What the four signs make of a pair, said as document 01 says it, by counting zeros ("Crossing"); and what each answer says of the four turns.
-use Rattle.std.specs.Prelude.{◌≡◌, refl, Bool, true, false, cond, ◌||◌, ◌⊎◌, ℕ, ◌+◌, ◌%◌, eqb, ltb, ℤ, pos, ◌<ℤ◌}
-use Rattle.std.proofs.Common.{inl, inr, arith}
-use Rattle.std.specs.Int.Signed.{lt_z}
-use Rattle.whole.specs.Order.{zz, lt-true, lt-false}
+use Rattle.std.specs.Prelude.{◌≡◌, Bool, cond, ◌||◌, ◌⊎◌, ℕ, ◌+◌, ◌%◌, eqb, ltb, ℤ, pos, ◌<ℤ◌}
 use Rattle.geom.specs.declared.Segment.{Segment}
-use Rattle.geom.specs.Plane.{Before, sign_of, side_of}
-use Rattle.plane.specs.Apart.{OneSide, OneZero, o₁, o₂, Apart, off_e, off_f, at_ends}
+use Rattle.geom.specs.Plane.{side_of}
+use Rattle.plane.specs.Apart.{OneZero, o₁, o₂, Apart}
 
 pub data Meeting : Type 0 where
   collinear none touching crossing : Meeting

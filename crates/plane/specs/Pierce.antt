@@ -2,20 +2,13 @@
 -- e's ends strictly on both sides of the line of f, and f's ends not on one side of the line of e: the crossing, by its weights on both, strictly inside e.
 -- Strictly on both sides in both: it is strictly inside both (a middle crossing). With one zero: that end of f lies strictly inside e (touching).
 -- On one line: an end of one lies strictly inside the other, unless one starts where or after the other ends, or their ends are the same.
-use Rattle.std.specs.Prelude.{◌≡◌, ◌⊎◌, ℤ, pos, ◌≤ℤ◌, ◌<ℤ◌}
-use Rattle.std.proofs.Common.{sym, subst, inl, inr}
-use Rattle.whole.specs.Order.{zz, neg_is}
-use Rattle.whole.specs.Sign.{Tri, less, same, more}
-use Rattle.whole.proofs.SignLaws.{tri}
+use Rattle.std.specs.Prelude.{◌≡◌, pos}
 use Rattle.geom.specs.declared.Point.{Point}
 use Rattle.geom.specs.declared.Segment.{Segment}
 use Rattle.geom.specs.Plane.{Before}
-use Rattle.geom.specs.Off.{Off, On, Is}
-use Rattle.geom.specs.Order.{Order, sooner, equal, later, order}
-use Rattle.plane.specs.Apart.{OneZero, o₁, o₂, Apart, in_line_lem}
-use Rattle.plane.specs.Scaled.{at, of_is, at_before}
-use Rattle.plane.specs.Mean.{Inner, mean_on, meet, meet_on_e, meet_on_f}
-use Rattle.plane.specs.Meeting.{Parted}
+use Rattle.geom.specs.Off.{Off, On}
+use Rattle.plane.specs.Apart.{o₁, o₂}
+use Rattle.plane.specs.Mean.{Inner}
 
 -- ---- a middle crossing: a common point, strictly inside both where they are turned
 pub record Crossed (e f : Segment) : Type 0 where

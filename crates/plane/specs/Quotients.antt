@@ -1,15 +1,6 @@
 -- The two quotients of document 01's "Middle point" as functions: cut toward zero is `quot_z`, to nearest with a half away from zero is `nearest`.
 -- Both meet their rules, so both are less than 1 off. A fraction and the same one reduced are cut to the same number.
-use Rattle.std.specs.Prelude.{◌≡◌, refl, [], ◌∷◌, ◌≢◌, ℕ, zero, suc, ◌+◌, ◌*◌, ◌/◌, ◌%◌, ◌<◌, ◌≤◌, ℤ, pos, negsuc, neg_ℤ, ◌+ℤ◌, ◌*ℤ◌, ◌≤ℤ◌, ◌<ℤ◌}
-use Rattle.std.proofs.Common.{sym, ◌∙◌, ap, ap₂, ⊎_elim, div-add-mod', mod-lt, div-lt_iff_lt-mul, arith}
-use Rattle.std.specs.Int.Signed.{quot_z}
-use Rattle.whole.specs.Order.{zz, add_is, neg_is}
-use Rattle.whole.specs.Ring.{reads}
-use Rattle.whole.proofs.RingLaws.{ring}
-use Rattle.whole.specs.Sign.{Tri, less, same, more}
-use Rattle.whole.proofs.SignLaws.{tri, mul_pos, nonneg_right, neg_right, zero_product}
-use Rattle.plane.specs.Scaled.{scale-le, scale-lt}
-use Rattle.plane.specs.Round.{Cut, Nearest, Rounded, over, under}
+use Rattle.std.specs.Prelude.{ℕ, suc, ◌+◌, ◌*◌, ◌/◌, ℤ, pos, negsuc, neg_ℤ}
 
 -- n / d of sizes, to nearest, a half up
 abbrev pub near : ℕ → ℕ → ℕ

@@ -1,13 +1,10 @@
 -- Rounding. q is near n/d if it is less than 1 from it: then a fraction between two whole numbers stays between them when rounded.
 -- Cut toward zero, and to nearest with a half away from zero, are both near, and each rule settles its q.
-use Rattle.std.specs.Prelude.{◌≡◌, [], ◌∷◌, zero, ◌+◌, ◌<◌, ◌≤◌, ℤ, pos, neg_ℤ, ◌+ℤ◌, ◌*ℤ◌, ◌≤ℤ◌, ◌<ℤ◌}
-use Rattle.std.proofs.Common.{sym, ◌∙◌, ap, ⊎_elim}
-use Rattle.whole.specs.Order.{zz, add_is, neg_is, mul_is}
+use Rattle.std.specs.Prelude.{◌≡◌, [], ◌∷◌, ℤ, pos, neg_ℤ, ◌+ℤ◌, ◌*ℤ◌, ◌≤ℤ◌, ◌<ℤ◌}
+use Rattle.whole.specs.Order.{zz, add_is}
 use Rattle.whole.specs.Ring.{reads}
 use Rattle.whole.proofs.RingLaws.{ring}
-use Rattle.whole.specs.Sign.{less}
-use Rattle.whole.proofs.SignLaws.{lt_or_le}
-use Rattle.plane.specs.Scaled.{scale-lt, unscale_lt}
+use Rattle.plane.specs.Scaled.{unscale_lt}
 
 -- ---- q is less than 1 from n/d
 pub record Near (n d q : ℤ) : Type 0 where

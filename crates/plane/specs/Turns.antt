@@ -1,14 +1,11 @@
 -- The laws of the turn of three points, and of the four turns of two segments. All are identities, by `ring`.
-use Rattle.std.specs.Prelude.{◌≡◌, List, [], ◌∷◌, ℤ, pos, neg_ℤ, ◌+ℤ◌, ◌-ℤ◌, ◌*ℤ◌, ◌<ℤ◌}
-use Rattle.std.proofs.Common.{◌∙◌, ap₂}
-use Rattle.whole.specs.Order.{zz, add_is, sub_is}
+use Rattle.std.specs.Prelude.{◌≡◌, List, [], ◌∷◌, ℤ, pos, ◌+ℤ◌}
 use Rattle.whole.specs.Ring.{reads}
 use Rattle.whole.proofs.RingLaws.{ring}
 use Rattle.geom.specs.declared.Point.{Point}
 use Rattle.geom.specs.declared.Segment.{Segment}
-use Rattle.geom.specs.Plane.{Before, by_x, by_y, turn, against}
-use Rattle.geom.specs.Off.{Off, cross}
-use Rattle.plane.specs.Scaled.{unscale}
+use Rattle.geom.specs.Plane.{turn}
+use Rattle.geom.specs.Off.{Off}
 use Rattle.plane.specs.Apart.{o₁, o₂}
 
 -- ---- a point of the grid as a point off it: its cross product is its turn

@@ -1,15 +1,10 @@
 -- Document 01's answer to a pair: does a look yield no mark ("Crossing", "Collinear")? For different segments that is `Apart`.
-use Rattle.std.specs.Prelude.{Bool, true, false, not, ◌||◌, ◌⊎◌, ◌↔◌, ◌≡◌, T, pos}
-use Rattle.std.proofs.Common.{inl, inr, ⊎_elim}
+use Rattle.std.specs.Prelude.{Bool, true, false, not, ◌||◌, ◌⊎◌}
 use Rattle.geom.specs.declared.Point.{Point}
 use Rattle.geom.specs.declared.Segment.{Segment}
-use Rattle.geom.specs.Plane.{Before, between}
-use Rattle.geom.specs.Tests.{Decides, yes, no, said}
-use Rattle.geom.proofs.TestsLaws.{between?}
-use Rattle.whole.specs.Decide.{or, opposite, test_is}
-use Rattle.plane.specs.Apart.{Apart, o₁, o₂}
-use Rattle.plane.specs.Meeting.{Meeting, collinear, none, touching, crossing, meeting, Case, all_zero, clear, end_of_f, end_of_e, through}
-use Rattle.plane.specs.Pierce.{Inside, Touch, a_of_f, b_of_f, a_of_e, b_of_e, Different}
+use Rattle.geom.specs.Plane.{between}
+use Rattle.plane.specs.Meeting.{Meeting, collinear, none, touching, crossing, meeting}
+use Rattle.plane.specs.Pierce.{Inside}
 
 -- p lies strictly between the ends of e
 abbrev pub inside : Segment → Point → Bool

@@ -1,18 +1,11 @@
 -- Weights: a point on a segment is a mean of its ends, (u + v) P = d (v a + u b), u, v not under 0 and not both 0.
 -- u and v are the offsets from the ends along x, or along y on an upright segment; no later proof splits on upright again.
 -- From the weights: where P is (an end, or strictly between by the order of points), and what P on another line says of the turns of a and b.
-use Rattle.std.specs.Prelude.{◌≡◌, [], ◌∷◌, ℤ, pos, ◌+ℤ◌, ◌-ℤ◌, ◌*ℤ◌, ◌≤ℤ◌, ◌<ℤ◌}
-use Rattle.std.proofs.Common.{sym, ◌∙◌, ap, ap₂, inl, inr, ⊎_elim}
-use Rattle.whole.specs.Order.{zz, add_is, sub_is}
-use Rattle.whole.specs.Ring.{reads}
-use Rattle.whole.proofs.RingLaws.{ring}
-use Rattle.whole.proofs.SignLaws.{lt_or_le, mul_pos}
-use Rattle.geom.specs.declared.Point.{Point}
+use Rattle.std.specs.Prelude.{◌≡◌, ℤ, pos, ◌+ℤ◌, ◌-ℤ◌, ◌*ℤ◌, ◌≤ℤ◌, ◌<ℤ◌}
+use Rattle.whole.specs.Order.{zz, sub_is}
 use Rattle.geom.specs.declared.Segment.{Segment}
-use Rattle.geom.specs.Plane.{Before, by_x, by_y, turn, against}
-use Rattle.geom.specs.Off.{Off, cross, Within, rising, falling, On, Is}
-use Rattle.plane.specs.Scaled.{at, spot, of_is, scale-lt, unscale, step}
-use Rattle.plane.specs.Apart.{UpTo, o₁, o₂}
+use Rattle.geom.specs.Off.{Off, Within, rising, falling}
+use Rattle.plane.specs.Scaled.{scale-lt}
 
 -- d (v p + u q)
 abbrev pub mean : ℤ → ℤ → ℤ → ℤ → ℤ → ℤ

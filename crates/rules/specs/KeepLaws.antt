@@ -1,10 +1,5 @@
 -- What follows from the rules' truths alone: the numbers that document 01 gives, and the algebra of signs, edge by edge (demand 3).
-use Rattle.std.specs.Prelude.{◌≡◌, refl, Bool, true, false, cond, [], ◌∷◌, ℕ, zero, suc, ◌+◌, ℤ, pos, ◌+ℤ◌, ◌-ℤ◌, ◌*ℤ◌}
-use Rattle.std.proofs.Common.{sym, ap₂, ◌∙◌}
-use Rattle.whole.specs.Ring.{reads}
-use Rattle.whole.proofs.RingLaws.{ring}
-use Rattle.whole.specs.Sum.{ind}
-use Rattle.rules.specs.Keep.{differ, truth, bit, top_of, bottom_of, kept, sign}
+use Rattle.std.specs.Prelude.{◌≡◌, ℕ, ℤ, pos, ◌+ℤ◌, ◌-ℤ◌, ◌*ℤ◌}
 
 -- ---- the algebra, on one side and then of the signs
 

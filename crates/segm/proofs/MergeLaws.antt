@@ -15,7 +15,7 @@ use Rattle.whole.specs.Sum.{All, none, also, Pairs, no_pair, pair, keep}
 use Rattle.whole.proofs.SumLaws.{all_map, keep-yes, keep_no, all_keep, pairs_keep}
 use Rattle.geom.specs.declared.Point.{Point}
 use Rattle.geom.specs.declared.Segment.{Segment}
-use Rattle.geom.specs.Plane.{Side, subject, clip, count}
+use Rattle.geom.specs.Plane.{subject, clip}
 use Rattle.geom.specs.Tests.{Decides, and, when_false}
 use Rattle.geom.proofs.TestsLaws.{same_point?}
 use Rattle.whole.specs.Kind.{rows_from}

@@ -8,8 +8,6 @@ use lib.Dec.{ltb}
 use lib.IntN.{ℤ}
 use lib.ListN.{length}
 use borrow.Author.Tests.{ltb-false, le-ltb}
-use denote.Enum.Declared.{tag_of}
-use types.Run.{OneOf, miss}
 use Rattle.whole.specs.Kind.{rows_from, front}
 use Rattle.whole.proofs.KindLaws.{length-rows, rows-front, length_front}
 use Rattle.whole.specs.Pass.{pass}
@@ -27,11 +25,9 @@ use Rattle.split.specs.Marks.{marks}
 use Rattle.split.specs.Look.{look, tidy, mark_order, same_mark}
 use Rattle.split.specs.Tidied.{tidy_answer, tidy_list}
 use Rattle.split.specs.Chain.{split}
-use Rattle.split.specs.contracts.answer.Tidied.{the_type as tidied-type}
 use Rattle.apply.specs.declared.Applied.{Applied}
 use Rattle.apply.specs.declared.Applied.TheVariants.{Pieces, Full}
 use Rattle.apply.specs.Answer.{in_order, apply_answer, apply_list, outcome}
-use Rattle.apply.specs.contracts.Applied.{the_type as applied-type}
 use Rattle.apply.proofs.Back.{number-split}
 use Rattle.steps.specs.declared.Joined.{Joined}
 use Rattle.steps.specs.declared.Joined.TheVariants.{Rows, TooBig}

@@ -1,7 +1,7 @@
 -- What a look says of the run: on a list that keeps what every list keeps 7 is its only refusal, and its marks stand at the front of the mark list.
-use mathlib.Core.Path.{◌≡◌, refl, sym, ap, ◌∙◌, subst}
+use mathlib.Core.Path.{◌≡◌, refl, sym, ap, ◌∙◌}
 use mathlib.Core.Bool.{Bool, true, false, cond}
-use mathlib.Core.List.{List, [], ◌∷◌}
+use mathlib.Core.List.{List}
 use mathlib.Core.Logic.{◌≢◌}
 use Prim.Native.Nat.{ℕ, ◌+◌, ◌*◌}
 use native.Mathlib.Numerals.{add-one}
@@ -10,8 +10,6 @@ use lib.Dec.{ltb, eqb}
 use lib.IntN.{ℤ}
 use lib.ListN.{length}
 use borrow.Author.Tests.{ltb-false, le-ltb, eq-eqb, ne_eqb}
-use denote.Enum.Declared.{tag_of}
-use types.Run.{OneOf, miss}
 use Rattle.whole.specs.Kind.{rows_from}
 use Rattle.whole.proofs.KindLaws.{length-rows, rows-front, length_front}
 use Rattle.whole.proofs.SumLaws.{all_map}
@@ -25,7 +23,6 @@ use Rattle.split.specs.Marks.{marks}
 use Rattle.split.specs.Look.{look}
 use Rattle.split.specs.Looked.{counted, look_answer}
 use Rattle.pairwise.specs.Listed.{look_list}
-use Rattle.split.specs.contracts.answer.Looked.{the_type}
 use Rattle.overlay.specs.declared.answer.Answer.TheVariants.{MarksFull as Full, Unsettled}
 use Rattle.overlay.specs.Looks.{Ran, settled, refused, radius, look_at}
 use Rattle.settle.specs.Kept.{Kept, Marked}

@@ -17,7 +17,7 @@ use Rattle.split.specs.declared.answer.Mark.{Mark}
 use Rattle.cross.specs.Cross.{inner, far, nearer}
 use Rattle.cross.specs.Middle.{Middle}
 use Rattle.split.specs.Look.{mark, one, line_marks, kind_marks, cross_marks, pair_marks}
-use Rattle.cross.specs.Outcome.{Place, t_a, t_b, o_a, o_b, Marked, both, on_other, on_target, Outcome, overlaid, nothing, marked}
+use Rattle.cross.specs.Outcome.{t_a, t_b, o_a, o_b, Marked, both, on_other, on_target, Outcome, overlaid, nothing, marked}
 use Rattle.cross.proofs.OutcomeLaws.{place_on_grid, outcome}
 use Rattle.split.specs.NoEnd.{MarkOf, of_target, of_other}
 

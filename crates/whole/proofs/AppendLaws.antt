@@ -1,18 +1,18 @@
 -- Laws of a list that takes rows as long as there is room: in two parts (`all_append`), no room left (`all-full`), all in the end (`all-front`).
 -- A loop that appends says of itself that the rows still to come make up what is promised: `Coming`, from `coming-all` by `coming-step` to `coming-none`, which
 -- gives the promise `Added`; `coming-under` for a loop in a loop.
-use Rattle.std.specs.Prelude.{◌≡◌, Bool, cond, ℤ, take}
+use Rattle.std.specs.Prelude.{◌≡◌, Bool, ℤ, take}
 use Rattle.std.proofs.Math.Path.{refl, sym, ap}
-use Rattle.std.proofs.Common.{◌∙◌, add-zero, mul-le-mul_left, add-one, length-append, take_all}
+use Rattle.std.proofs.Common.{◌∙◌, mul-le-mul_left, add-one, length-append, take_all}
 use Rattle.std.proofs.Math.Bool.{true, false}
 use mathlib.Core.List.{List, [], ◌∷◌, ◌++◌}
-use Prim.Native.Nat.{ℕ, suc, ◌+◌, ◌-◌, ◌*◌, ◌≤◌, ◌<◌}
+use Prim.Native.Nat.{ℕ, suc, ◌-◌, ◌*◌, ◌≤◌, ◌<◌}
 use Rattle.std.proofs.Math.Nat.{sub-zero}
 use native.Mathlib.Omega.{arith}
 use Rattle.std.proofs.Math.Dec.{ltb}
 use Rattle.std.proofs.Math.ListN.{length}
 use Rattle.std.proofs.Math.Seq.{sets, take-nil}
-use borrow.Author.Tests.{le-ltb, ltb-true, ltb-false}
+use borrow.Author.Tests.{ltb-true, ltb-false}
 use Rattle.whole.specs.Kind.{Kind, put_row, flat, front}
 use Rattle.whole.specs.Append.{put_next, put_all, Added}
 use Rattle.whole.proofs.KindLaws.{length_put, sets_flat, sets_front}

@@ -2,7 +2,7 @@
 -- as for `ring`, and becomes a fact of ℕ about the halves of the monomials, which omega combines:
 --     out≤ ρ (search reads ..) (omega (arith, in≤ ρ (search reads ..) h, in< ρ (search reads ..) k)) : a ≤ℤ b
 -- with ρ one list of variables for all. A monomial is an atom: where its sign matters, bring it in, `in≤ ρ (..) (mul_nonneg p q)`.
-use Rattle.std.specs.Prelude.{◌≡◌, refl, List, [], ◌∷◌, ℕ, zero, suc, ◌+◌, ◌*◌, ◌<◌, ◌≤◌, ℤ, pos, negsuc, ◌+ℤ◌, ◌-ℤ◌, ◌*ℤ◌, ◌≤ℤ◌, ◌<ℤ◌}
+use Rattle.std.specs.Prelude.{◌≡◌, refl, List, [], ◌∷◌, zero, suc, ◌+◌, ◌<◌, ◌≤◌, ℤ, pos, negsuc, ◌+ℤ◌, ◌-ℤ◌, ◌*ℤ◌, ◌≤ℤ◌, ◌<ℤ◌}
 use Rattle.std.proofs.Common.{arith}
 use Rattle.whole.specs.Order.{up, dn, zz, add_is, sub_is, mul_is}
 use Rattle.whole.specs.Ring.{Pol, con, ◌▹◌, ev, Both, diff, reads}

@@ -7,7 +7,6 @@ use Rattle.whole.specs.Order.{zz, zc, add_is, sub_is}
 use Rattle.whole.specs.Ring.{reads}
 use Rattle.whole.proofs.RingLaws.{ring}
 use Rattle.whole.proofs.CompareLaws.{in≤, out≤}
-use Rattle.whole.specs.Sign.{same}
 use Rattle.whole.proofs.SignLaws.{mul_nonneg, mul_mono, cancel_le}
 use Rattle.whole.specs.Fit.{apart, abs-mul-lt, fits-abs}
 use Rattle.whole.specs.Test.{tests, eq_z}
@@ -23,7 +22,7 @@ use Rattle.whole.proofs.SortingLaws.{unique, is_sort, sort-perm, sort_sorted, so
 use Rattle.whole.specs.Swap.{swap, swap-perm}
 use Rattle.whole.specs.Lex.{lex, pick, lex-order, whole}
 use Rattle.whole.specs.Rows as rows
-use Rattle.whole.specs.Kind.{Kind, row_at, put_row, flat, rows_from, front}
+use Rattle.whole.specs.Kind.{Kind, row_at, put_row, rows_from, front}
 use Rattle.whole.proofs.KindLaws.{length-rows, length_front}
 use Rattle.whole.specs.KindSort.{by_numbers}
 use Rattle.whole.proofs.KindSortLaws.{sorted_front}

@@ -11,7 +11,7 @@ use Rattle.std.proofs.Math.Nat.{add-zero, mul-le-mul_left}
 use Rattle.std.proofs.Math.Numerals.{add-one}
 use native.Mathlib.Omega.{arith}
 use Rattle.std.proofs.Math.ListN.{length, take, drop, length-append, length-drop, take-append-drop}
-use Rattle.std.proofs.Math.Seq.{sets, sets-eq, length-sets, drop-append-add, drop-drop, length-take-le, take-nil}
+use Rattle.std.proofs.Math.Seq.{sets, sets-eq, length-sets, drop-drop, length-take-le, take-nil}
 use Rattle.std.proofs.lemmas.List.{take-set-le}
 use Rattle.whole.specs.Total.{same_or, side}
 use Rattle.whole.specs.Kind.{Kind, row_at, put_row, flat, rows_from, front}

@@ -5,7 +5,7 @@
 -- the number of variables plus the height of the terms.
 -- Refusals: an expected type `⊥` says that the identity is false; "no proof of `Both`" that a variable is missing from the list; a stuck `T` that a `pos n`
 -- with n a variable was read as a numeral, and wants the ruleset `reads-atoms` with `pos n` in the list.
-use Rattle.std.specs.Prelude.{◌≡◌, refl, Bool, true, false, List, [], ◌∷◌, ℕ, zero, suc, ◌+◌, ◌*◌, T, eqb, ℤ, pos, negsuc, neg_ℤ, ◌+ℤ◌, ◌-ℤ◌, ◌*ℤ◌}
+use Rattle.std.specs.Prelude.{◌≡◌, refl, Bool, true, false, List, [], ◌∷◌, zero, suc, ◌*◌, T, ℤ, pos, negsuc, neg_ℤ, ◌+ℤ◌, ◌-ℤ◌, ◌*ℤ◌}
 use Rattle.std.proofs.Common.{sym, ◌∙◌, ap, ap₂, arith, eqb→eq}
 use Rattle.std.proofs.Math.IntN.{+ℤ_idl, +ℤ_idr, +ℤ_assoc, +ℤ_comm, *ℤ_comm, zero-*ℤ, *ℤ-zero}
 use Rattle.whole.specs.Order.{zz, up, dn, add_is, sub_is, neg_is, mul_is, mul-add, mul_assoc, eq_out}

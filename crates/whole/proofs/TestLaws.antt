@@ -3,7 +3,6 @@
 -- (Module Order has laws of the same names from an outcome to a fact of the halves, for `omega zc`.)
 use Rattle.std.specs.Prelude.{◌≡◌, refl, Bool, true, false, not, ◌&&◌, ◌||◌, T, ℤ, ◌≤ℤ◌, ◌<ℤ◌}
 use Rattle.std.proofs.Common.{sym, ◌∙◌, subst, ⊎_elim}
-use Rattle.std.proofs.Math.IntN.{+ℤ_idl, +ℤ_idr}
 use Rattle.std.specs.Int.Signed.{le_z, lt_z}
 use Rattle.whole.specs.Order.{zz}
 use Rattle.whole.proofs.SignLaws.{lt_or_le}

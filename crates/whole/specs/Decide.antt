@@ -2,12 +2,9 @@
 -- laws in the order in which it is written (`both` and `either` for `cond`, `and` and `or` for `&&` and `||`, `said` for the same sentence in other words):
 --     said to from (both (lt? a b) (le? c d)) : Decides P (cond (lt_z a b) (le_z c d) false)
 -- and `holds`, `fails`, `when_true`, `when_false` go between the sentence and the test's outcome.
-use Rattle.std.specs.Prelude.{◌≡◌, refl, Bool, true, false, cond, not, ◌&&◌, ◌||◌, ◌↔◌, ◌⊎◌, ℕ, ◌<◌, T, ltb, eqb, ℤ, ◌≤ℤ◌, ◌<ℤ◌}
-use Rattle.std.proofs.Common.{sym, inl, inr, ⊎_elim, arith, ltb-true, ltb-false, eqb-true}
-use Rattle.std.specs.Int.Signed.{lt_z, le_z}
+use Rattle.std.specs.Prelude.{◌≡◌, refl, Bool, true, false, cond, not, ◌&&◌, ◌||◌, ◌↔◌, ◌⊎◌, ℕ, ◌<◌, T, ltb, eqb}
+use Rattle.std.proofs.Common.{inl, inr, ⊎_elim, arith, ltb-true, ltb-false, eqb-true}
 use Rattle.std.proofs.lemmas.Bool.{eqb-false}
-use Rattle.whole.specs.Order.{zz}
-use Rattle.whole.specs.Test.{eq_z}
 
 -- the test t decides the sentence P
 pub data Decides (P : Type 0) : Bool → Type 0 where

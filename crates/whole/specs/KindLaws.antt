@@ -2,19 +2,15 @@
 -- after the other (`rows_step` and `rows-done` for a loop; `length-rows`, `rows_at`, `rows_append`, `rows_same`, `rows_put` for a list); and a list with rows at
 -- its front (`length_front`, `rows-front`, `row-front`, `row-past`, `drop-front`, `front-front`, `front-rows`). A kind of three numbers is made by `three-numbered` and
 -- `three-short`.
-use Rattle.std.specs.Prelude.{◌≡◌, ◌≢◌, ℤ, pos, get_or, set}
-use Rattle.std.proofs.Math.Path.{refl, sym, ap, ap₂}
-use Rattle.std.proofs.Common.{◌∙◌, ⊎_elim, not-suc-le-zero, length-set, ext_get_or, get_or-set_same, get_or-set_other, drop-set-lt, drop_at}
-use mathlib.Core.List.{List, [], ◌∷◌, ◌++◌, append_assoc}
-use Prim.Native.Nat.{ℕ, zero, suc, ◌+◌, ◌-◌, ◌*◌, ◌≤◌, ◌<◌}
-use Rattle.std.proofs.Math.Nat.{add-zero, mul-le-mul_left}
-use Rattle.std.proofs.Math.Numerals.{add-one}
+use Rattle.std.specs.Prelude.{◌≡◌, ℤ}
+use Rattle.std.proofs.Math.Path.{ap}
+use Rattle.std.proofs.Common.{◌∙◌}
+use mathlib.Core.List.{List, [], ◌∷◌, ◌++◌}
+use Prim.Native.Nat.{ℕ, ◌+◌, ◌-◌, ◌*◌, ◌≤◌}
 use native.Mathlib.Omega.{arith}
-use Rattle.std.proofs.Math.ListN.{length, take, drop, length-append, length-drop, take-append-drop}
-use Rattle.std.proofs.Math.Seq.{sets, sets-eq, length-sets, drop-append-add, drop-drop, length-take-le, take-nil}
-use Rattle.std.proofs.lemmas.List.{take-set-le}
-use Rattle.whole.specs.Total.{same_or, side}
-use Rattle.whole.specs.Kind.{Kind, row_at, put_row, flat, rows_from, front}
+use Rattle.std.proofs.Math.ListN.{length, drop, length-append}
+use Rattle.std.proofs.Math.Seq.{drop-append-add, drop-drop}
+use Rattle.whole.specs.Kind.{Kind, flat, front}
 
 -- ---- rows of any kind
 module _ {A : Type 0} (R : Kind A) where

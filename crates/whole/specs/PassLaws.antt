@@ -1,14 +1,12 @@
 -- A pass made in place, as a loop's invariant `Going`: n rows are written, the rows from i on are as they were, and what the pass still gives for them,
 -- written from n on, makes the whole list. From `going_start` or `going-first`, by `going_skip` or `going_put` for each row, to `done` or `done_put`.
 -- No row is written past the row that was read, n ≤ i, so nothing is lost.
-use Rattle.std.specs.Prelude.{◌≡◌, refl, ℕ, ◌+◌, ◌-◌, ◌*◌, ◌≤◌, ◌<◌, ℤ}
-use Rattle.std.proofs.Math.Path.{sym, ap}
-use Rattle.std.proofs.Common.{◌∙◌, arith}
-use mathlib.Core.List.{List, [], ◌∷◌, ◌++◌}
-use Rattle.std.proofs.Math.Nat.{mul-le-mul_left}
+use Rattle.std.specs.Prelude.{◌≡◌, refl, ℕ, ◌+◌, ◌-◌, ◌*◌, ◌≤◌, ℤ}
+use Rattle.std.proofs.Common.{arith}
+use mathlib.Core.List.{List}
 use Rattle.std.proofs.Math.ListN.{length}
 use Rattle.std.proofs.Math.Seq.{sets}
-use Rattle.whole.specs.Kind.{Kind, row_at, put_row, flat, rows_from, front}
+use Rattle.whole.specs.Kind.{Kind, row_at, flat, rows_from}
 use Rattle.whole.specs.Pass.{Pass, pass}
 
 module _ {A S : Type 0} (R : Kind A) (P : Pass A S) where

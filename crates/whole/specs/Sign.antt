@@ -3,12 +3,9 @@
 --     let k = mul-pos {a = b -ℤ a} {b = c} (omega (zz, sub_is b a)) p in omega (zz, sub-mul a b c, sub_is (b *ℤ c) (a *ℤ c))
 -- The factors of a product are implicit and are not found by themselves where they are compound: give them by name, as here. `omega` neither reads nor proves
 -- a sum of types: split with `tri a b` (less, same, more), `lt_or_le`, or by contradiction (`le_by_contra`, `lt_by_contra`).
-use Rattle.std.specs.Prelude.{◌≡◌, refl, [], ◌∷◌, ◌⊎◌, Bool, true, false, not, ℕ, zero, suc, ◌+◌, ◌*◌, ◌≤◌, T, ℤ, pos, negsuc, neg_ℤ, nat_abs, ◌+ℤ◌, ◌-ℤ◌, ◌*ℤ◌, ◌≤ℤ◌, ◌<ℤ◌}
-use Rattle.std.proofs.Common.{ap, inl, inr, ⊎_elim, mul-le-mul, arith}
-use Rattle.std.proofs.Math.IntN.{*ℤ_comm, zero-*ℤ}
-use Rattle.std.specs.Int.Signed.{lt_z, lt_z_yes, lt_z_no}
-use Rattle.whole.specs.Order.{up, dn, zz, add_is, sub_is, neg_is, split}
-use Rattle.whole.specs.Ring.{reads}
+use Rattle.std.specs.Prelude.{◌≡◌, refl, ℕ, zero, suc, ◌+◌, ◌*◌, ℤ, pos, negsuc, neg_ℤ, nat_abs, ◌*ℤ◌, ◌<ℤ◌}
+use Rattle.std.proofs.Common.{arith}
+use Rattle.whole.specs.Order.{up, dn}
 
 -- less, equal or greater
 pub data Tri (a b : ℤ) : Type 0 where

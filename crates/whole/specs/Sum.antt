@@ -4,12 +4,9 @@
 --     All P L, Pairs R L, In e L      P of every member; R of every member and each later one; membership
 -- Compare two sums term by term: `sum_on` wants an equation for every member, `over-same` and `over-one` .. `over-three` want equal tests, or tests that
 -- pass equally often, counted by `ind`. The order of a list never matters to a sum: `sum-perm`.
-use Rattle.std.specs.Prelude.{◌≡◌, refl, List, [], ◌∷◌, ◌++◌, map, Bool, true, false, not, cond, ◌&&◌, ℕ, suc, ◌+◌, ◌*◌, ◌≤◌, ℤ, pos, negsuc, neg_ℤ, nat_abs, ◌+ℤ◌, ◌-ℤ◌, ◌*ℤ◌, length, ◌≤ℤ◌}
-use Rattle.std.proofs.Common.{sym, ◌∙◌, ap, ap₂, suc-mul, arith}
-use Rattle.whole.specs.Order.{zz, up, dn, add_is, mul_is}
-use Rattle.whole.specs.Ring.{reads}
-use Rattle.whole.specs.Fit.{abs-add}
-use Rattle.whole.specs.Sorting.{sum, Perm, insert, sort}
+use Rattle.std.specs.Prelude.{◌≡◌, List, [], ◌∷◌, Bool, true, false, ℕ, suc, ℤ, pos, ◌+ℤ◌, ◌*ℤ◌, length}
+use Rattle.std.proofs.Common.{◌∙◌, ap₂}
+use Rattle.whole.specs.Order.{zz, add_is, mul_is}
 
 -- ---- members
 

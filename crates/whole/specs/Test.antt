@@ -1,8 +1,7 @@
 -- Tests of whole numbers from facts, and facts from tests. A law `lt-true` .. `le-false` here takes a fact of ℤ to the outcome of a test, and `simp tests` puts
 -- the outcome of every comparison that is known into the goal. `lt_of`, `le_of`, `lt_not`, `le_not_of` go back, from an outcome to a fact of ℤ.
 -- (Module Order has laws of the same names from an outcome to a fact of the halves, for `omega zc`.)
-use Rattle.std.specs.Prelude.{◌≡◌, refl, Bool, true, false, not, ◌&&◌, ◌||◌, T, ℤ, ◌≤ℤ◌, ◌<ℤ◌}
-use Rattle.std.proofs.Common.{sym, ◌∙◌, subst, ⊎_elim}
+use Rattle.std.specs.Prelude.{◌≡◌, refl, Bool, true, false, ◌&&◌, T, ℤ, ◌≤ℤ◌, ◌<ℤ◌}
 use Rattle.std.proofs.Math.IntN.{+ℤ_idl, +ℤ_idr}
 use Rattle.std.specs.Int.Signed.{le_z, lt_z}
 use Rattle.whole.specs.Order.{zz}

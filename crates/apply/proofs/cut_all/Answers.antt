@@ -1,7 +1,7 @@
 -- `apply::cut_all` meets its contract. The loop's invariant: the marks from e on are those of the segments from i on, whose pieces stand from row i + e on;
 -- the rows before are as they were.
 use mathlib.Core.Path.{◌≡◌, refl, sym, ap, subst, ◌∙◌}
-use Prim.Native.Nat.{◌+◌, ◌-◌, ◌*◌, ◌≤◌}
+use Prim.Native.Nat.{◌+◌, ◌-◌, ◌*◌}
 use native.Mathlib.Nat.{sub-zero}
 use native.Mathlib.Omega.{arith}
 use borrow.Author.Rules.{rules}

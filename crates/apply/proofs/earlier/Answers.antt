@@ -1,7 +1,6 @@
 -- `apply::earlier` meets its contract: each comparison is a test of the definition.
 use mathlib.Core.Path.{sym, ◌∙◌}
 use Rattle.apply.specs.Answer.{earlier}
-use borrow.Author.Rules.{rules}
 use Rattle.apply.proofs.earlier.Goals as goal
 
 pub returns-then-of_lower : goal.returns-then-of_lower

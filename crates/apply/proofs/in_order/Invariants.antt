@@ -1,14 +1,9 @@
 -- `apply::in_order` meets its contract. The loop's invariant: the marks from i on answer for all.
-use mathlib.Core.Path.{◌≡◌, sym, ap, ◌∙◌}
+use mathlib.Core.Path.{◌≡◌}
 use Prim.Native.Nat.{◌-◌, ◌≤◌}
-use native.Mathlib.Nat.{sub-zero}
-use native.Mathlib.Omega.{arith}
-use borrow.Author.Rules.{rules}
 use Rattle.whole.specs.Kind.{rows_from}
-use Rattle.whole.proofs.KindLaws.{rows_step, rows-done}
 use Rattle.split.specs.Marks.{marks as mark_rows}
-use Rattle.apply.specs.Answer.{names, in_order}
-use Rattle.apply.proofs.Ordered.{not_named, not_led, ordered-later, none_unordered}
+use Rattle.apply.specs.Answer.{in_order}
 use Rattle.apply.proofs.in_order.Given as goal
 
 abbrev pub invariant-loop-i : goal.invariant-loop-i

@@ -6,7 +6,6 @@ use Rattle.whole.specs.Kind.{row_at}
 use Rattle.whole.proofs.KindLaws.{rows_step, rows-done}
 use Rattle.split.specs.Marks.{marks}
 use Rattle.apply.specs.Answer.{leads, earlier}
-use borrow.Author.Rules.{rules}
 use Rattle.apply.proofs.leads.Goals as goal
 
 pub returns-then-i-count : goal.returns-then-i-count

@@ -1,11 +1,8 @@
 -- `apply::run_start` meets its contract. The loop's invariant: the marks before number a have the same start of the run.
-use mathlib.Core.Path.{◌≡◌, refl, sym, ap, ◌∙◌}
-use Prim.Native.Nat.{◌≤◌}
+use mathlib.Core.Path.{refl, sym, ap, ◌∙◌}
 use native.Mathlib.Omega.{arith}
 use lib.IntN.{pos}
-use borrow.Author.Rules.{rules}
 use Rattle.geom.specs.Plane.{sameZ}
-use Rattle.apply.specs.Start.{start_of}
 use Rattle.apply.proofs.Runs.{start-more, start-here, start_none}
 use Rattle.apply.proofs.run_start.Goals as goal
 

@@ -1,5 +1,4 @@
 -- `checks::short` meets its contract: each test is one of the definition.
-use borrow.Author.Rules.{rules}
 use borrow.Author.Tests.{lt-ltb, le-ltb}
 use Rattle.checks.specs.Checks.{is_short}
 use Rattle.checks.proofs.short.Goals as goal

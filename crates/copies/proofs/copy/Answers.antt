@@ -1,6 +1,6 @@
 -- The numbers are written from the front, one place a turn. Each `return` is answered by the test before it.
 use mathlib.Core.Path.{◌≡◌, refl, ◌∙◌}
-use Prim.Native.Nat.{◌≤◌, ◌<◌, ◌-◌}
+use Prim.Native.Nat.{◌≤◌, ◌<◌}
 use native.Mathlib.Omega.{arith}
 use lib.IntN.{pos}
 use lib.ListN.{length, get_or, length-set}

@@ -1,6 +1,5 @@
 -- `directions::forward` meets its contract: turned exactly if b stands before a.
 use mathlib.Core.Path.{sym, ◌∙◌}
-use borrow.Author.Rules.{rules}
 use Rattle.directions.specs.Forward.{forward}
 use Rattle.directions.proofs.forward.Goals as goal
 

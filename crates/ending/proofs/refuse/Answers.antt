@@ -1,7 +1,6 @@
 -- Each list is cleared in turn.
 use Rattle.ending.specs.Lent.{lent}
 use Rattle.ending.proofs.Endings.{all-cleared}
-use borrow.Author.Rules.{rules}
 use Rattle.ending.proofs.refuse.Goals as goal
 
 pub returns : goal.returns

@@ -1,6 +1,5 @@
 -- `faults::least` meets its contract: either count is -2^31.
 use mathlib.Core.Path.{sym, ◌∙◌}
-use borrow.Author.Rules.{rules}
 use Rattle.faults.proofs.least.Goals as goal
 
 pub returns-then-least_count : goal.returns-then-least_count

@@ -1,9 +1,7 @@
 -- `faults::some_fault` meets its contract: the rows passed do not have the fault. Each need is the law of its event.
-use Prim.Native.Nat.{◌-◌}
 use native.Mathlib.Omega.{arith}
-use borrow.Author.Rules.{rules}
 use Rattle.faults.specs.Faults.{fault}
-use Rattle.faults.proofs.Some.{Clean, clean_start, clean_next, found, clean_end}
+use Rattle.faults.proofs.Some.{clean_start, clean_next, found, clean_end}
 use Rattle.faults.proofs.some_fault.Goals as goal
 
 pub loop-i-init : goal.loop-i-init

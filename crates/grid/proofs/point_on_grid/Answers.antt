@@ -1,6 +1,5 @@
 -- `grid::point_on_grid` meets its contract: the two answers of `on_grid` are the two tests of the definition.
 use mathlib.Core.Path.{sym, ◌∙◌}
-use borrow.Author.Rules.{rules}
 use Rattle.geom.specs.Plane.{grid_point}
 use Rattle.grid.proofs.point_on_grid.Goals as goal
 

@@ -1,6 +1,5 @@
 -- `grid::segment_on_grid` meets its contract: the two answers of `point_on_grid` are the two tests of the definition.
 use mathlib.Core.Path.{sym, ◌∙◌}
-use borrow.Author.Rules.{rules}
 use Rattle.geom.specs.Plane.{grid_segment}
 use Rattle.grid.proofs.segment_on_grid.Goals as goal
 

@@ -1,7 +1,6 @@
 -- `groups::close` meets its contract: nothing is stored where the group is dropped, and else its one row.
 use mathlib.Core.Path.{refl, sym, ap, ◌∙◌}
 use native.Mathlib.Omega.{arith}
-use borrow.Author.Rules.{rules}
 use Rattle.whole.specs.Kind.{put_row, flat}
 use Rattle.geom.specs.declared.Segment.{Segment}
 use Rattle.geom.specs.Rows.{segments}

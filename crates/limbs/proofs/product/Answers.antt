@@ -1,6 +1,5 @@
 -- `limbs::product` meets its contract: the products of the halves with their carries make a * b, and no sum wraps.
 use native.Mathlib.Omega.{arith}
-use borrow.Author.Rules.{rules}
 use Rattle.limbs.proofs.Words.{Halves, halves, columns, two_is}
 use Rattle.limbs.proofs.product.Goals as goal
 

@@ -1,8 +1,7 @@
 -- `lists::clear_i64` meets its contract: the list is filled with zero from the front, one place a turn.
-use Prim.Native.Nat.{◌-◌}
 use native.Mathlib.Omega.{arith}
 use lib.IntN.{pos}
-use Rattle.lists.proofs.Write.{Filling, filling_begins, filling_goes_on, filling_ends}
+use Rattle.lists.proofs.Write.{filling_begins, filling_goes_on, filling_ends}
 use Rattle.lists.proofs.clear_i64.Goals as goal
 
 pub loop-i-init : goal.loop-i-init

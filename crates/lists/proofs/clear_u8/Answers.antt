@@ -1,7 +1,6 @@
 -- `lists::clear_u8` meets its contract: the list is filled with zero from the front, one place a turn.
-use Prim.Native.Nat.{◌-◌}
 use native.Mathlib.Omega.{arith}
-use Rattle.lists.proofs.Write.{Filling, filling_begins, filling_goes_on, filling_ends}
+use Rattle.lists.proofs.Write.{filling_begins, filling_goes_on, filling_ends}
 use Rattle.lists.proofs.clear_u8.Goals as goal
 
 pub loop-i-init : goal.loop-i-init

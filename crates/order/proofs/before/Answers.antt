@@ -1,6 +1,5 @@
 -- `order::before` meets its contract: each answer of `less` is a test of the definition.
 use mathlib.Core.Path.{sym, ◌∙◌}
-use borrow.Author.Rules.{rules}
 use Rattle.geom.specs.Plane.{before}
 use Rattle.order.proofs.before.Goals as goal
 

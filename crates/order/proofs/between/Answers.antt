@@ -1,6 +1,5 @@
 -- `order::between` meets its contract: the two answers of `before` are the two tests of the definition.
 use mathlib.Core.Path.{sym, ◌∙◌}
-use borrow.Author.Rules.{rules}
 use Rattle.geom.specs.Plane.{between}
 use Rattle.order.proofs.between.Goals as goal
 

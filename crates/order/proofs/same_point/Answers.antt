@@ -1,6 +1,5 @@
 -- `order::same_point` meets its contract: the two answers of `same` are the two tests of the definition.
 use mathlib.Core.Path.{sym, ◌∙◌}
-use borrow.Author.Rules.{rules}
 use Rattle.geom.specs.Plane.{same_point}
 use Rattle.order.proofs.same_point.Goals as goal
 

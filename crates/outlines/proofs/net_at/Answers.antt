@@ -1,8 +1,6 @@
 -- `outlines::net_at` meets its contract: the loop keeps `Tally`, and each need is the law of its event.
-use Prim.Native.Nat.{◌-◌}
 use native.Mathlib.Omega.{arith}
-use borrow.Author.Rules.{rules}
-use Rattle.outlines.proofs.Tally.{Tally, tally_start, tally_next, tally_end}
+use Rattle.outlines.proofs.Tally.{tally_start, tally_next, tally_end}
 use Rattle.outlines.proofs.net_at.Goals as goal
 
 pub loop-j-init : goal.loop-j-init

@@ -1,8 +1,6 @@
 -- `outlines::net_at` meets its contract: the loop keeps `Tally`, and each need is the law of its event.
 use Prim.Native.Nat.{◌-◌}
-use native.Mathlib.Omega.{arith}
-use borrow.Author.Rules.{rules}
-use Rattle.outlines.proofs.Tally.{Tally, tally_start, tally_next, tally_end}
+use Rattle.outlines.proofs.Tally.{Tally}
 use Rattle.outlines.proofs.net_at.Given as goal
 
 abbrev pub invariant-loop-j : goal.invariant-loop-j

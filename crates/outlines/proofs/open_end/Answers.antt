@@ -1,6 +1,5 @@
 -- `outlines::open_end` meets its contract: either end is open.
 use mathlib.Core.Path.{◌≡◌, sym, ap, ◌∙◌}
-use borrow.Author.Rules.{rules}
 use Rattle.whole.specs.Kind.{rows_from}
 use Rattle.geom.specs.Rows.{segments}
 use Rattle.outlines.specs.Net.{net_at, is_uneven, has_open_end}

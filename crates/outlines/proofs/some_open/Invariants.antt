@@ -1,12 +1,9 @@
 -- `outlines::some_open` meets its contract: the rows passed have no open end, and a list is open where some row has one.
 use Prim.Native.Nat.{◌-◌}
-use native.Mathlib.Omega.{arith}
-use borrow.Author.Rules.{rules}
 use Rattle.whole.specs.Kind.{rows_from}
 use Rattle.geom.specs.Rows.{segments}
-use Rattle.faults.proofs.Some.{Clean, clean_start, clean_next, found, clean_end}
+use Rattle.faults.proofs.Some.{Clean}
 use Rattle.outlines.specs.Net.{has_open_end}
-use Rattle.outlines.proofs.Ends.{open_is}
 use Rattle.outlines.proofs.some_open.Given as goal
 
 abbrev pub invariant-loop-i : goal.invariant-loop-i

@@ -5,7 +5,7 @@ use native.Mathlib.Nat.{add-zero}
 use native.Mathlib.Omega.{arith}
 use lib.Seq.{get_or-drop}
 use mir.Facts.{to_z-of_z}
-use borrow.Author.Rules.{rules, sfits_of}
+use borrow.Author.Rules.{sfits_of}
 use Rattle.whole.specs.Kind.{row_at}
 use Rattle.places.proofs.read.Goals as goal
 

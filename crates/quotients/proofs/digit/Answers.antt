@@ -1,7 +1,6 @@
 -- `quotients::digit` meets its contract: its three answers are those of proofs/Guess.antt.
 use Prim.Native.Nat.{◌+◌, ◌*◌, ◌/◌, ◌%◌, ◌^◌}
 use native.Mathlib.Omega.{arith}
-use borrow.Author.Rules.{rules}
 use Rattle.limbs.proofs.Words.{upper, lower}
 use Rattle.quotients.proofs.Guess.{Guess, guessed, kept, at_least_one, one_less, at_least_two, two-less}
 use Rattle.quotients.proofs.digit.Goals as goal

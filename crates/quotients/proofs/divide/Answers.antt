@@ -1,7 +1,6 @@
 -- `quotients::divide` meets its contract: the upper digit's rest goes on to the lower digit, and the two digits make the quotient.
 use Prim.Native.Nat.{◌+◌, ◌*◌, ◌^◌, ◌<◌}
 use native.Mathlib.Omega.{arith}
-use borrow.Author.Rules.{rules}
 use Rattle.limbs.proofs.Words.{upper, lower, Divided, quotient_is, quotient_divided}
 use Rattle.quotients.proofs.Long.{one_digit, two_digits}
 use Rattle.quotients.proofs.divide.Goals as goal

@@ -9,7 +9,6 @@ use Rattle.limbs.specs.Nearest.{answer-none}
 use Rattle.limbs.proofs.Words.{one_word, Divided, quotient_divided}
 use Rattle.quotients.proofs.Long.{stays-below, Raises, raises, room}
 use Rattle.quotients.proofs.Rounding.{too_high, raised_alike}
-use borrow.Author.Rules.{rules}
 use Rattle.quotients.proofs.nearest.Goals as goal
 use Rattle.quotients.proofs.nearest.Goals.{After-divide, After-factor-f, After-raised, Else-d-eq0}
 

@@ -2,7 +2,6 @@
 use mathlib.Core.Path.{◌≡◌}
 use Prim.Native.Nat.{◌*◌, ◌<◌}
 use native.Mathlib.Omega.{arith}
-use borrow.Author.Rules.{rules}
 use Rattle.limbs.specs.Limbs.{two-value, value}
 use Rattle.limbs.proofs.Words.{two_is}
 use Rattle.quotients.proofs.Long.{carry_below, carry_over}

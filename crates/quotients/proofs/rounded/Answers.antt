@@ -1,7 +1,6 @@
 -- `quotients::rounded` meets its contract: a rest of half the divisor, or more, counts up.
 use mathlib.Core.Path.{sym}
 use native.Mathlib.Omega.{arith}
-use borrow.Author.Rules.{rules}
 use Rattle.limbs.specs.Nearest.{answer-whole, answer_large}
 use Rattle.quotients.proofs.Rounding.{down, up}
 use Rattle.quotients.proofs.rounded.Goals as goal

@@ -1,5 +1,4 @@
 -- `rooms::mark_room` meets its contract: three numbers a mark, at most 65,536 marks.
-use borrow.Author.Rules.{rules}
 use Rattle.rooms.proofs.mark_room.Goals as goal
 
 pub returns : goal.returns

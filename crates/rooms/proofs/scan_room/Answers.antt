@@ -1,5 +1,4 @@
 -- `rooms::scan_room` meets its contract: three numbers an entry, at most 2,048 entries.
-use borrow.Author.Rules.{rules}
 use Rattle.rooms.proofs.scan_room.Goals as goal
 
 pub returns : goal.returns

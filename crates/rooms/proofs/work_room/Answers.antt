@@ -1,5 +1,4 @@
 -- `rooms::work_room` meets its contract: six numbers a segment, at most 2,048 segments.
-use borrow.Author.Rules.{rules}
 use Rattle.rooms.proofs.work_room.Goals as goal
 
 pub returns : goal.returns

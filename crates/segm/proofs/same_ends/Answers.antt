@@ -1,6 +1,5 @@
 -- `segm::same_ends` meets its contract: a and a, then b and b.
 use mathlib.Core.Path.{sym, ◌∙◌}
-use borrow.Author.Rules.{rules}
 use Rattle.segm.specs.Merge.{same_ends}
 use Rattle.segm.proofs.same_ends.Goals as goal
 

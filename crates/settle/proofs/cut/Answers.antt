@@ -3,7 +3,6 @@ use mathlib.Core.Path.{◌≡◌, sym, ap, ◌∙◌}
 use Prim.Native.Nat.{ℕ}
 use native.Mathlib.Omega.{arith}
 use mathlib.Core.List.{List}
-use lib.IntN.{ℤ}
 use lib.ListN.{length}
 use Rattle.whole.specs.Kind.{rows_from}
 use Rattle.geom.specs.declared.Segment.{Segment}
@@ -14,7 +13,6 @@ use Rattle.apply.specs.Answer.{apply_answer, apply_list}
 use Rattle.overlay.specs.Looks.{radius}
 use Rattle.settle.specs.Step.{goes_on, StillKept}
 use Rattle.settle.proofs.Cutting.{Tidy, Split, is_distinct, is_tidy, never_short, is_split, is_full, refuses_8, goes_on_lem, refuses_9}
-use borrow.Author.Rules.{rules}
 use Rattle.settle.proofs.cut.Goals as goal
 use Rattle.settle.proofs.cut.Goals.{After-apply}
 

@@ -1,5 +1,4 @@
 -- The part behind the rows is cleared and put back.
-use borrow.Author.Rules.{rules}
 use Rattle.steps.proofs.Behind.{cleared-behind}
 use Rattle.steps.proofs.clear_behind.Goals as goal
 

@@ -1,6 +1,5 @@
 -- Each arm passes on what merging said of the sorted rows.
 use mathlib.Core.Path.{◌≡◌, ap}
-use borrow.Author.Rules.{rules}
 use Rattle.whole.specs.Kind.{rows_from}
 use Rattle.geom.specs.Rows.{segments}
 use Rattle.steps.specs.Joining.{join_answer, join_list}
