@@ -1,6 +1,6 @@
 -- What answer 0 says of the outcome of a run: the checks 1 to 6 passed, the looks settled, and the work and mask lists begin with the edges and their bytes.
 use Rattle.std.specs.Prelude.{◌≡◌, List, ℤ}
-use Prim.Native.Nat.{ℕ, ◌≤◌}
+use Prim.Native.Nat.{ℕ, suc, ◌≤◌}
 use Rattle.std.proofs.Math.ListN.{length, take}
 use Rattle.whole.specs.Kind.{rows_from}
 use Rattle.geom.specs.declared.Segment.{Segment}

@@ -21,6 +21,7 @@ use Rattle.build.specs.declared.sweep.Filled.{Filled}
 use Rattle.build.specs.declared.sweep.Filled.TheVariants.{Done}
 use Rattle.scan.specs.Masks.{bytes, crowded}
 use Rattle.build.specs.Fill as fill
+use Rattle.build.proofs.FillLaws.{one_case}
 use Rattle.build.specs.contracts.sweep.Filled.{the_type}
 use Rattle.overlay.specs.declared.answer.Answer.{Answer}
 use Rattle.overlay.specs.declared.answer.Answer.TheVariants.{Settled, ScanFull as Crowded}
@@ -71,4 +72,4 @@ module _ (s : Settings) (l : Lent) (k looks : ℕ) (range : InRange s) (kept : K
             let scans = ap (λ o. length o.scan) h ∙ length-replicate (length l.scan) (pos 0) in
             let bytes = ap (λ o. length o.masks) h ∙ length-replicate (length l.masks) 0 in
             rw (scans, bytes)
-        go false h = absurd (t (fill.one_case r Done (ap (λ o. o.answer) h)))
+        go false h = absurd (t (one_case r Done (ap (λ o. o.answer) h)))
