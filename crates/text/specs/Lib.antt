@@ -2,5 +2,4 @@
 pub mod Put
 pub mod PutLaws
 pub mod Text
-pub mod TextLaws
 pub mod Cases

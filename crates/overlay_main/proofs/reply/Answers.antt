@@ -13,7 +13,7 @@ use Rattle.wire.specs.declared.Decoded.TheVariants.{Asked, Broken}
 use Rattle.wire.specs.Asked.{is_taken, settings_of, decoded_as, decoded_list}
 use Rattle.text.specs.PutLaws.{put_as}
 use Rattle.text.specs.Text.{head}
-use Rattle.text.specs.TextLaws.{written-refusal}
+use Rattle.text.proofs.TextLaws.{written-refusal}
 use Rattle.overlay_main.specs.Reply.{text_of, reply}
 use Rattle.overlay_main.proofs.reply.Goals as goal
 

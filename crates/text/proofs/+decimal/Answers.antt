@@ -2,7 +2,7 @@
 use mathlib.Core.Path.{sym}
 use native.Mathlib.Omega.{arith}
 use Rattle.text.specs.PutLaws.{put_none, put_more, put_as}
-use Rattle.text.specs.TextLaws.{digits_none, digits_one, digits_more}
+use Rattle.text.proofs.TextLaws.{digits_none, digits_one, digits_more}
 use Rattle.text.proofs.+decimal.Goals as goal
 
 pub returns-then-k-eq0-clause-put : goal.returns-then-k-eq0-clause-put

@@ -9,7 +9,7 @@ use mir.Facts.{to_z-of_z}
 use Rattle.geom.specs.declared.Segment.{Segment}
 use Rattle.text.specs.PutLaws.{put_more, put_as, put_length}
 use Rattle.text.specs.Text.{spaced, line}
-use Rattle.text.specs.TextLaws.{line_pairs}
+use Rattle.text.proofs.TextLaws.{line_pairs}
 use borrow.Author.Rules.{rules}
 use Rattle.text.proofs.line.Goals as goal
 use Rattle.text.proofs.line.Goals.{After-read-v}

@@ -5,7 +5,7 @@ use native.Mathlib.Nat.{sub-zero}
 use native.Mathlib.Omega.{arith}
 use Rattle.text.specs.PutLaws.{coming-all, coming-step, coming-none}
 use Rattle.text.specs.Text.{lines_from}
-use Rattle.text.specs.TextLaws.{lines_first}
+use Rattle.text.proofs.TextLaws.{lines_first}
 use Rattle.text.proofs.lines.Goals as goal
 
 pub loop-i-init : goal.loop-i-init

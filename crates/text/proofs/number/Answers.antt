@@ -7,7 +7,7 @@ use lib.IntN.{nat_abs}
 use mir.Facts.{to_z-of_z}
 use Rattle.text.specs.PutLaws.{put_more, put_as}
 use Rattle.text.specs.Text.{decimal, number}
-use Rattle.text.specs.TextLaws.{number-under, number-over}
+use Rattle.text.proofs.TextLaws.{number-under, number-over}
 use Rattle.text.proofs.number.Goals as goal
 
 pub returns-then-z-lt0 : goal.returns-then-z-lt0

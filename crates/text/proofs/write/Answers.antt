@@ -6,7 +6,7 @@ use Rattle.overlay.specs.Numbers.{told}
 use Rattle.report.specs.declared.Report.{Report}
 use Rattle.text.specs.PutLaws.{put_none, put_more, put_as}
 use Rattle.text.specs.Text.{head, lines_from}
-use Rattle.text.specs.TextLaws.{over_limit, few_rows, few_bytes, written_all}
+use Rattle.text.proofs.TextLaws.{over_limit, few_rows, few_bytes, written_all}
 use Rattle.text.proofs.write.Goals as goal
 
 pub returns-then-m-gt2048 : goal.returns-then-m-gt2048

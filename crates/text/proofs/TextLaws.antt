@@ -51,7 +51,6 @@ lines_first rows bytes m i h =
     rw (left, add-one i)
 
 -- ---- the lists have the rows, or not
-
 module _ (t : Told) (rows : List ℤ) (bytes : List ℕ) where
   pub over_limit : 2048 < t.segments → written t rows bytes ≡ []
   unfolding written
