@@ -1,6 +1,7 @@
 -- `crossings::on_a_line` meets its contract: each test is the definition's, in its order; where none holds, it is the last end.
 use mathlib.Core.Path.{◌≡◌}
 use Prim.Native.Nat.{ℕ}
+use native.Mathlib.Omega.{arith}
 use borrow.Author.Tests.{eq-eqb, ne_eqb, lt-ltb, le-ltb}
 use Rattle.cross.specs.Cross.{cross_by}
 use Rattle.cross.specs.Sides.{ends, by_ends, last_end}
@@ -28,7 +29,7 @@ returns-then-s3-s4 c radius =
 left : (c : Else-s3-s4) (radius : ℕ) → let s = c.args in cross_by radius s.target s.other s.s1 s.s2 s.s3 s.s4 ≡ ends radius s.target s.other s.s1 s.s2 s.s3 s.s4
 left c radius =
     let s = c.args in
-    by_ends radius s.target s.other s.s1 s.s2 s.s3 s.s4 c.if-zeros-eq4.false c.if-zeros-gt1.false c.if-s1-s2.false c.if-s3-s4.false
+    by_ends radius s.target s.other s.s1 s.s2 s.s3 s.s4 c.if-zeros-eq4.false (omega arith) c.if-s1-s2.false c.if-s3-s4.false
 
 pub returns-then-s1-eq1 : goal.returns-then-s1-eq1
 returns-then-s1-eq1 c radius = rw (left (goal.at.returns-then-s1-eq1 c).Else-s3-s4 radius, eq-eqb _ _ c.if-s1-eq1.true) c.found-then-s1-eq1.ensures

@@ -18,7 +18,7 @@ use Rattle.pairwise.proofs.look.Goals as goal
 use Rattle.pairwise.proofs.look.Goals.{Start, Else-some_fault, Else-work-n}
 
 long_enough : (c : Else-work-n) → let a = c.args in (ltb 2048 a.n || ltb (length a.work.now) (6 * a.n)) ≡ false
-long_enough c = rw (le-ltb 2048 c.args.n c.if-n-gt2048.false, le-ltb _ _ c.if-work-n.false)
+long_enough c = rw (le-ltb 2048 c.args.n (omega arith), le-ltb _ _ c.if-work-n.false)
 
 none_off : (c : Else-some_fault) → let a = c.args in some is_off (rows_from segments a.work.now 0 a.n) ≡ false
 none_off c = sym c.some_fault.ensures ∙ c.if-some_fault.false
