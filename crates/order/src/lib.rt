@@ -9,43 +9,34 @@ use geom::{Coord, Point};
 pub fn less(a: Coord, b: Coord) -> bool
     ensures { result ≡ lt_z a.0 b.0 }
 {
-    a.0 < b.0
+    a < b
 }
 
 pub fn same(a: Coord, b: Coord) -> bool
     ensures { result ≡ sameZ a.0 b.0 }
 {
-    a.0 == b.0
+    a == b
 }
 
 // x first, then y.
+#[tactic(auto, using(geom::proofs::Derived::lt_is_before))]
 pub fn before(p: Point, q: Point) -> bool
     ensures { result ≡ is_before p q }
 {
-    if less(p.x, q.x) {
-        return true;
-    }
-    if less(q.x, p.x) {
-        return false;
-    }
-    less(p.y, q.y)
+    p < q
 }
 
 // q strictly between p and r.
+#[tactic(auto, using(geom::proofs::Derived::lt_is_before), unfolding(geom::specs::Plane::between))]
 pub fn between(p: Point, q: Point, r: Point) -> bool
     ensures { result ≡ is_between p q r }
 {
-    if before(p, q) {
-        return before(q, r);
-    }
-    false
+    p < q && q < r
 }
 
+#[tactic(auto, using(geom::proofs::Derived::eq_is_same_point))]
 pub fn same_point(p: Point, q: Point) -> bool
     ensures { result ≡ same_point p q }
 {
-    if same(p.x, q.x) {
-        return same(p.y, q.y);
-    }
-    false
+    p == q
 }
