@@ -44,7 +44,7 @@ pub fn apply(work: &mut [i32], n: usize, marks: &[i32], count: usize) -> Applied
         return Applied::Short;
     }
     if in_order(marks, count, n) {
-        if faults::some_fault(work, n, 5) {
+        if faults::some_row(work, n, faults::has_least) {
             return Applied::BadCount;
         }
         if room < n + count {

@@ -46,13 +46,13 @@ pub fn fill(
     if crate::check::is_bad(fill, rule) {
         return Filled::BadRule;
     }
-    if faults::some_fault(work, n, 3) {
+    if faults::some_row(work, n, faults::is_off) {
         return Filled::OffGrid;
     }
-    if faults::some_fault(work, n, 4) {
+    if faults::some_row(work, n, faults::is_point) {
         return Filled::NoLength;
     }
-    if faults::some_fault(work, n, 5) {
+    if faults::some_row(work, n, faults::has_least) {
         return Filled::BadCount;
     }
     lists::clear_u8(masks);

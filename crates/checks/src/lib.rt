@@ -41,13 +41,13 @@ pub fn check(input: &[i32], settings: Settings, work: usize, masks: usize) -> Fa
     if bad(settings) {
         return Fault::BadSettings;
     }
-    if faults::some_fault(input, n, 3) {
+    if faults::some_row(input, n, faults::is_off) {
         return Fault::OffGrid;
     }
-    if faults::some_fault(input, n, 4) {
+    if faults::some_row(input, n, faults::is_point) {
         return Fault::NoLength;
     }
-    if faults::some_fault(input, n, 5) {
+    if faults::some_row(input, n, faults::has_least) {
         return Fault::BadCount;
     }
     if outlines::some_open(input, n) {

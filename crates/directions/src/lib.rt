@@ -7,13 +7,15 @@ ghost use Rattle.directions.specs.Forward.{forward as forward_of};
 use geom::Segment;
 
 // A segment with a > b is turned.
+#[tactic(auto, using(geom::proofs::Derived::lt_is_before), unfolding(crate::specs::Forward::forward))]
 pub fn forward(v: Segment) -> Segment
     requires countable { Countable v.subject }
     requires countable_2 { Countable v.clip }
     ensures { result ≡ forward_of v }
 {
-    if order::before(v.b, v.a) {
-        return geom::turned(v);
+    if v.b < v.a {
+        geom::turned(v)
+    } else {
+        v
     }
-    v
 }

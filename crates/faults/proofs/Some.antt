@@ -1,5 +1,7 @@
 -- A loop over rows that stops at the first one with a fault: what is left to look at has one exactly if the whole list has one. One law for each event. And what a list without the fault says of each row.
-use mathlib.Core.Path.{◌≡◌, sym, ap, ◌∙◌}
+use mathlib.Core.Path.{◌≡◌, refl, sym, ap, ◌∙◌}
+use Rattle.std.proofs.Common.{add-one}
+use Rattle.std.specs.List.{list_any, range_with_len}
 use mathlib.Core.Bool.{Bool, true, false, ◌||◌}
 use mathlib.Core.List.{List}
 use mathlib.Core.Logic.{⊎_elim}
@@ -20,6 +22,12 @@ use Rattle.faults.specs.Faults.{some, is_off}
 
 abbrev whole : (Segment → Bool) → List ℤ → ℕ → Bool
 whole fault xs n = some fault (rows_from segments xs 0 n)
+
+-- the test of the rows' numbers is the test of the rows
+pub any_row : (has : Segment → Bool) (xs : List ℤ) (i n : ℕ) → list_any (λ k. has (row_at segments xs k)) (range_with_len i n) ≡ some has (rows_from segments xs i n)
+unfolding some rows_from
+any_row has xs i zero = refl
+any_row has xs i (suc n) = rw add-one (ap (λ t. has (row_at segments xs i) || t) (any_row has xs (suc i) n))
 
 -- the rows before i have no fault
 pub record Clean (fault : Segment → Bool) (xs : List ℤ) (n i : ℕ) : Type 0 where

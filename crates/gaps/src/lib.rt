@@ -11,7 +11,7 @@ use geom::Coord;
 pub fn wide(x: i32) -> i64
     ensures { result ≡ x }
 {
-    x as i64
+    i64::from(x)
 }
 
 pub fn minus(a: i64, b: i64) -> i64
@@ -27,5 +27,5 @@ pub fn gap(a: Coord, b: Coord) -> i64
     requires on_grid_2 { OnGrid b.0 }
     ensures { result ≡ a.0 -ℤ b.0 }
 {
-    minus(wide(a.0), wide(b.0))
+    i64::from(a.0) - i64::from(b.0)
 }

@@ -37,14 +37,10 @@ pub fn turned(v: Segment) -> Segment
     requires countable_2 { Countable v.clip }
     ensures { result ≡ turned_of v }
 {
-    let a = v.b;
-    let b = v.a;
-    let subject = negated(v.subject);
-    let clip = negated(v.clip);
     Segment {
-        a,
-        b,
-        subject,
-        clip,
+        a: v.b,
+        b: v.a,
+        subject: negated(v.subject),
+        clip: negated(v.clip),
     }
 }

@@ -5,29 +5,26 @@ ghost use Rattle.geom.specs.Plane.{on_grid, grid_point, grid_segment};
 
 use geom::{Coord, Point, Segment};
 
+// The grid's coordinates begin at -LIMIT and end before LIMIT.
+const LIMIT: i32 = 1 << 30;
+
+#[tactic(auto, unfolding(geom::specs::Plane::on_grid))]
 pub fn on_grid(c: Coord) -> bool
     ensures { result ≡ on_grid c.0 }
 {
-    if c.0 < -1073741824 {
-        return false;
-    }
-    c.0 < 1073741824
+    (-LIMIT..LIMIT).contains(&c.0)
 }
 
+#[tactic(auto, unfolding(geom::specs::Plane::grid_point))]
 pub fn point_on_grid(p: Point) -> bool
     ensures { result ≡ grid_point p }
 {
-    if on_grid(p.x) {
-        return on_grid(p.y);
-    }
-    false
+    on_grid(p.x) && on_grid(p.y)
 }
 
+#[tactic(auto, unfolding(geom::specs::Plane::grid_segment))]
 pub fn segment_on_grid(v: Segment) -> bool
     ensures { result ≡ grid_segment v }
 {
-    if point_on_grid(v.a) {
-        return point_on_grid(v.b);
-    }
-    false
+    point_on_grid(v.a) && point_on_grid(v.b)
 }

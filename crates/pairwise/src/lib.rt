@@ -30,10 +30,10 @@ pub fn look(work: &[i32], n: usize, radius: u64, marks: &mut [i32]) -> Looked
     if work.len() < 6 * n {
         return Looked::Short;
     }
-    if faults::some_fault(work, n, 3) {
+    if faults::some_row(work, n, faults::is_off) {
         return Looked::OffGrid;
     }
-    if faults::some_fault(work, n, 4) {
+    if faults::some_row(work, n, faults::is_point) {
         return Looked::NoLength;
     }
     pairs(work, n, radius, marks)

@@ -11,7 +11,7 @@ pub fn total(sum: i64, c: Count) -> i64
     ensures value { result ≡ sum +ℤ c.0 }
     ensures result_bound { nat_abs result ≤ nat_abs sum + 2147483648 }
 {
-    sum + c.0 as i64
+    sum + i64::from(c.0)
 }
 
 pub fn zero(z: i64) -> bool

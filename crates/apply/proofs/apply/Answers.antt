@@ -5,6 +5,7 @@ use Prim.Native.Nat.{ℕ}
 use native.Mathlib.Omega.{arith}
 use lib.IntN.{ℤ}
 use Rattle.apply.specs.declared.Applied.{Applied}
+use Rattle.faults.specs.Faults.{has_least}
 use Rattle.apply.specs.Answer.{apply_answer, apply_list}
 use Rattle.apply.specs.Said.{apply_says, apply_said, also-said}
 use Rattle.apply.proofs.Answered.{too_long, too_many, unordered, bad_count, no_room, all-cut, at_front}
@@ -28,12 +29,12 @@ returns-then-mark_room-count c =
     let e = too_many x.work.now x.n x.marks.now x.count (omega arith) (omega arith) in
     record { value = sym e; result_value = said _ _ _ _ (sym e); work_after = refl }
 
-pub returns-then-some_fault : goal.returns-then-some_fault
+pub returns-then-some_row : goal.returns-then-some_row
 unfolding apply_list
-returns-then-some_fault c =
+returns-then-some_row c =
     let x = c.args in
     let ordered = sym c.in_order.ensures ∙ c.if-in_order.true in
-    let least = sym c.some_fault.ensures ∙ c.if-some_fault.true in
+    let least = sym (c.some_row.ensures has_least (λ v r h. search rules)) ∙ c.if-some_row.true in
     let e = bad_count x.work.now x.n x.marks.now x.count (omega arith) (omega arith) ordered least in
     record { value = sym e; result_value = said _ _ _ _ (sym e); work_after = refl }
 
@@ -42,14 +43,14 @@ unfolding apply_list
 returns-then-room-n-2 c =
     let x = c.args in
     let ordered = sym c.in_order.ensures ∙ c.if-in_order.true in
-    let least = sym c.some_fault.ensures ∙ c.if-some_fault.false in
+    let least = sym (c.some_row.ensures has_least (λ v r h. search rules)) ∙ c.if-some_row.false in
     let e = no_room x.work.now x.n x.marks.now x.count (omega arith) (omega arith) ordered least (omega arith) in
     record { value = sym e; result_value = said _ _ _ _ (sym e); work_after = c.clear_i32.ensures }
 
 pub cut_all-requires : goal.cut_all-requires
 cut_all-requires c =
     let ordered = sym c.in_order.ensures ∙ c.if-in_order.true in
-    let least = sym c.some_fault.ensures ∙ c.if-some_fault.false in
+    let least = sym (c.some_row.ensures has_least (λ v r h. search rules)) ∙ c.if-some_row.false in
     record { n_bound = omega arith; count_in_bounds = search rules; count_in_bounds_2 = search rules; count_value = ordered; n_value = least }
 
 pub returns-then-in_order : goal.returns-then-in_order
@@ -57,7 +58,7 @@ unfolding apply_list
 returns-then-in_order c =
     let x = c.args in
     let ordered = sym c.in_order.ensures ∙ c.if-in_order.true in
-    let least = sym c.some_fault.ensures ∙ c.if-some_fault.false in
+    let least = sym (c.some_row.ensures has_least (λ v r h. search rules)) ∙ c.if-some_row.false in
     let e = all-cut x.work.now x.n x.marks.now x.count (omega arith) (omega arith) ordered least (omega arith) in
     record { value = sym e; result_value = said _ _ _ _ (sym e); work_after = c.cut_all.ensures ∙ at_front x.work.now x.n x.marks.now x.count (omega arith) ordered }
 

@@ -1,6 +1,7 @@
 -- `checks::check` meets its contract: each test is one of the definition, and what the first one settles is what the others require.
 use mathlib.Core.Path.{◌≡◌, sym, ◌∙◌}
 use mathlib.Core.Bool.{false, cond}
+use borrow.Author.Rules.{rules}
 use lib.ListN.{length}
 use Rattle.whole.specs.Kind.{rows_from}
 use Rattle.geom.specs.Rows.{segments}
@@ -10,7 +11,7 @@ use Rattle.checks.specs.Checks.{is_short, is_bad, fault_of}
 use Rattle.checks.specs.Exactly.{also-said}
 use Rattle.checks.specs.Accepted.{Roomy, roomy_when}
 use Rattle.checks.proofs.check.Goals as goal
-use Rattle.checks.proofs.check.Goals.{After-some_open, Else-bad, Else-short, Else-some_fault, Else-some_fault-2, Else-some_fault-3}
+use Rattle.checks.proofs.check.Goals.{After-some_open, Else-bad, Else-short, Else-some_row, Else-some_row-2, Else-some_row-3}
 
 -- ---- what the tests passed say
 
@@ -20,14 +21,14 @@ not_short c = sym c.short.ensures ∙ c.if-short.false
 not-bad : (c : Else-bad) → is_bad c.args.settings ≡ false
 not-bad c = sym c.bad.ensures ∙ c.if-bad.false
 
-none-off : (c : Else-some_fault) → some is_off (rows_from segments c.args.input.now 0 c.args.settings.n) ≡ false
-none-off c = sym c.some_fault.ensures ∙ c.if-some_fault.false
+none-off : (c : Else-some_row) → some is_off (rows_from segments c.args.input.now 0 c.args.settings.n) ≡ false
+none-off c = sym (c.some_row.ensures is_off (λ v r h. search rules)) ∙ c.if-some_row.false
 
-none-point : (c : Else-some_fault-2) → some is_point (rows_from segments c.args.input.now 0 c.args.settings.n) ≡ false
-none-point c = sym c.some_fault-2.ensures ∙ c.if-some_fault-2.false
+none-point : (c : Else-some_row-2) → some is_point (rows_from segments c.args.input.now 0 c.args.settings.n) ≡ false
+none-point c = sym (c.some_row-2.ensures is_point (λ v r h. search rules)) ∙ c.if-some_row-2.false
 
-none-least : (c : Else-some_fault-3) → some has_least (rows_from segments c.args.input.now 0 c.args.settings.n) ≡ false
-none-least c = sym c.some_fault-3.ensures ∙ c.if-some_fault-3.false
+none-least : (c : Else-some_row-3) → some has_least (rows_from segments c.args.input.now 0 c.args.settings.n) ≡ false
+none-least c = sym (c.some_row-3.ensures has_least (λ v r h. search rules)) ∙ c.if-some_row-3.false
 
 room : (c : Else-short) → Roomy c.args.settings.n (length c.args.input.now) c.args.work c.args.masks
 room c = roomy_when _ _ _ _ (not_short c)
@@ -36,7 +37,7 @@ room c = roomy_when _ _ _ _ (not_short c)
 open-decides : (c : After-some_open) → let x = c.args in fault_of x.input.now x.settings x.work x.masks ≡ cond c.some_open.result Open Sound
 unfolding fault_of
 open-decides c =
-    rw (sym c.short.ensures ∙ c.if-short.false, sym c.bad.ensures ∙ c.if-bad.false, sym c.some_fault.ensures ∙ c.if-some_fault.false, sym c.some_fault-2.ensures ∙ c.if-some_fault-2.false, sym c.some_fault-3.ensures ∙ c.if-some_fault-3.false, sym c.some_open.ensures)
+    rw (sym c.short.ensures ∙ c.if-short.false, sym c.bad.ensures ∙ c.if-bad.false, sym (c.some_row.ensures is_off (λ v r h. search rules)) ∙ c.if-some_row.false, sym (c.some_row-2.ensures is_point (λ v r h. search rules)) ∙ c.if-some_row-2.false, sym (c.some_row-3.ensures has_least (λ v r h. search rules)) ∙ c.if-some_row-3.false, sym c.some_open.ensures)
 
 -- ---- the needs
 
@@ -52,31 +53,31 @@ returns-then-bad c =
     let p = also-said _ _ _ _ (rw (not_short (goal.at.returns-then-bad c).Else-short, sym c.bad.ensures ∙ c.if-bad.true)) in
     record { value = p.0; result_value = p.1 }
 
-pub some_fault-requires : goal.some_fault-requires
-some_fault-requires c = (room (goal.at.some_fault-requires c).Else-short).rows
+pub some_row-requires-clause-in_bounds : goal.some_row-requires-clause-in_bounds
+some_row-requires-clause-in_bounds c = (room (goal.at.some_row-requires-clause-in_bounds c).Else-short).rows
 
-pub returns-then-some_fault : goal.returns-then-some_fault
+pub returns-then-some_row : goal.returns-then-some_row
 unfolding fault_of
-returns-then-some_fault c =
-    let p = also-said _ _ _ _ (rw (not_short (goal.at.returns-then-some_fault c).Else-short, not-bad (goal.at.returns-then-some_fault c).Else-bad, sym c.some_fault.ensures ∙ c.if-some_fault.true)) in
+returns-then-some_row c =
+    let p = also-said _ _ _ _ (rw (not_short (goal.at.returns-then-some_row c).Else-short, not-bad (goal.at.returns-then-some_row c).Else-bad, sym (c.some_row.ensures is_off (λ v r h. search rules)) ∙ c.if-some_row.true)) in
     record { value = p.0; result_value = p.1 }
 
-pub some_fault-requires-2 : goal.some_fault-requires-2
-some_fault-requires-2 c = (room (goal.at.some_fault-requires-2 c).Else-short).rows
+pub some_row-requires-2-clause-in_bounds : goal.some_row-requires-2-clause-in_bounds
+some_row-requires-2-clause-in_bounds c = (room (goal.at.some_row-requires-2-clause-in_bounds c).Else-short).rows
 
-pub returns-then-some_fault-2 : goal.returns-then-some_fault-2
+pub returns-then-some_row-2 : goal.returns-then-some_row-2
 unfolding fault_of
-returns-then-some_fault-2 c =
-    let p = also-said _ _ _ _ (rw (not_short (goal.at.returns-then-some_fault-2 c).Else-short, not-bad (goal.at.returns-then-some_fault-2 c).Else-bad, none-off (goal.at.returns-then-some_fault-2 c).Else-some_fault, sym c.some_fault-2.ensures ∙ c.if-some_fault-2.true)) in
+returns-then-some_row-2 c =
+    let p = also-said _ _ _ _ (rw (not_short (goal.at.returns-then-some_row-2 c).Else-short, not-bad (goal.at.returns-then-some_row-2 c).Else-bad, none-off (goal.at.returns-then-some_row-2 c).Else-some_row, sym (c.some_row-2.ensures is_point (λ v r h. search rules)) ∙ c.if-some_row-2.true)) in
     record { value = p.0; result_value = p.1 }
 
-pub some_fault-requires-3 : goal.some_fault-requires-3
-some_fault-requires-3 c = (room (goal.at.some_fault-requires-3 c).Else-short).rows
+pub some_row-requires-3-clause-in_bounds : goal.some_row-requires-3-clause-in_bounds
+some_row-requires-3-clause-in_bounds c = (room (goal.at.some_row-requires-3-clause-in_bounds c).Else-short).rows
 
-pub returns-then-some_fault-3 : goal.returns-then-some_fault-3
+pub returns-then-some_row-3 : goal.returns-then-some_row-3
 unfolding fault_of
-returns-then-some_fault-3 c =
-    let p = also-said _ _ _ _ (rw (not_short (goal.at.returns-then-some_fault-3 c).Else-short, not-bad (goal.at.returns-then-some_fault-3 c).Else-bad, none-off (goal.at.returns-then-some_fault-3 c).Else-some_fault, none-point (goal.at.returns-then-some_fault-3 c).Else-some_fault-2, sym c.some_fault-3.ensures ∙ c.if-some_fault-3.true)) in
+returns-then-some_row-3 c =
+    let p = also-said _ _ _ _ (rw (not_short (goal.at.returns-then-some_row-3 c).Else-short, not-bad (goal.at.returns-then-some_row-3 c).Else-bad, none-off (goal.at.returns-then-some_row-3 c).Else-some_row, none-point (goal.at.returns-then-some_row-3 c).Else-some_row-2, sym (c.some_row-3.ensures has_least (λ v r h. search rules)) ∙ c.if-some_row-3.true)) in
     record { value = p.0; result_value = p.1 }
 
 pub some_open-requires : goal.some_open-requires

@@ -8,20 +8,21 @@ use lib.Dec.{ltb}
 use lib.ListN.{length}
 use Rattle.whole.specs.Kind.{rows_from}
 use Rattle.geom.specs.Rows.{segments}
-use Rattle.faults.specs.Faults.{some, is_off}
+use borrow.Author.Rules.{rules}
+use Rattle.faults.specs.Faults.{some, is_off, is_point}
 use Rattle.split.specs.Looked.{look_answer}
 use Rattle.pairwise.specs.Listed.{look_list}
 use Rattle.split.specs.declared.answer.Looked.{Looked}
 use Rattle.split.specs.declared.answer.Looked.TheVariants.{Short, OffGrid, NoLength}
 use Rattle.split.specs.Said.{look_says, look_said, also-looked}
 use Rattle.pairwise.proofs.look.Goals as goal
-use Rattle.pairwise.proofs.look.Goals.{Start, Else-some_fault, Else-work-n}
+use Rattle.pairwise.proofs.look.Goals.{Start, Else-some_row, Else-work-n}
 
 long_enough : (c : Else-work-n) → let a = c.args in (ltb 2048 a.n || ltb (length a.work.now) (6 * a.n)) ≡ false
 long_enough c = rw (le-ltb 2048 c.args.n (omega arith), le-ltb _ _ c.if-work-n.false)
 
-none_off : (c : Else-some_fault) → let a = c.args in some is_off (rows_from segments a.work.now 0 a.n) ≡ false
-none_off c = sym c.some_fault.ensures ∙ c.if-some_fault.false
+none_off : (c : Else-some_row) → let a = c.args in some is_off (rows_from segments a.work.now 0 a.n) ≡ false
+none_off c = sym (c.some_row.ensures is_off (λ v r h. search rules)) ∙ c.if-some_row.false
 
 -- what the value says in numbers follows from the value
 said : (c : Start) {r : Looked} → let a = c.args in
@@ -42,25 +43,25 @@ returns-then-work-n c =
     let v : Short ≡ look_answer a.radius a.work.now a.n a.marks.now = rw (le-ltb 2048 a.n c.if-n-gt2048.false, lt-ltb _ _ c.if-work-n.true) in
     record { value = v; result_value = said (goal.at.returns-then-work-n c).Start v; marks_after = refl }
 
-pub returns-then-some_fault : goal.returns-then-some_fault
+pub returns-then-some_row : goal.returns-then-some_row
 unfolding look_answer look_list
-returns-then-some_fault c =
+returns-then-some_row c =
     let a = c.args in
-    let l = long_enough (goal.at.returns-then-some_fault c).Else-work-n in
-    let v : OffGrid ≡ look_answer a.radius a.work.now a.n a.marks.now = rw (l, sym c.some_fault.ensures ∙ c.if-some_fault.true) in
-    record { value = v; result_value = said (goal.at.returns-then-some_fault c).Start v; marks_after = refl }
+    let l = long_enough (goal.at.returns-then-some_row c).Else-work-n in
+    let v : OffGrid ≡ look_answer a.radius a.work.now a.n a.marks.now = rw (l, sym (c.some_row.ensures is_off (λ v r h. search rules)) ∙ c.if-some_row.true) in
+    record { value = v; result_value = said (goal.at.returns-then-some_row c).Start v; marks_after = refl }
 
-pub returns-then-some_fault-2 : goal.returns-then-some_fault-2
+pub returns-then-some_row-2 : goal.returns-then-some_row-2
 unfolding look_answer look_list
-returns-then-some_fault-2 c =
+returns-then-some_row-2 c =
     let a = c.args in
-    let l = long_enough (goal.at.returns-then-some_fault-2 c).Else-work-n in
-    let o = none_off (goal.at.returns-then-some_fault-2 c).Else-some_fault in
-    let v : NoLength ≡ look_answer a.radius a.work.now a.n a.marks.now = rw (l, o, sym c.some_fault-2.ensures ∙ c.if-some_fault-2.true) in
-    record { value = v; result_value = said (goal.at.returns-then-some_fault-2 c).Start v; marks_after = refl }
+    let l = long_enough (goal.at.returns-then-some_row-2 c).Else-work-n in
+    let o = none_off (goal.at.returns-then-some_row-2 c).Else-some_row in
+    let v : NoLength ≡ look_answer a.radius a.work.now a.n a.marks.now = rw (l, o, sym (c.some_row-2.ensures is_point (λ v r h. search rules)) ∙ c.if-some_row-2.true) in
+    record { value = v; result_value = said (goal.at.returns-then-some_row-2 c).Start v; marks_after = refl }
 
 pub pairs-requires : goal.pairs-requires
-pairs-requires c = record { n_in_bounds = omega arith; n_bound = omega arith; n_value = none_off (goal.at.pairs-requires c).Else-some_fault }
+pairs-requires c = record { n_in_bounds = omega arith; n_bound = omega arith; n_value = none_off (goal.at.pairs-requires c).Else-some_row }
 
 pub returns : goal.returns
 unfolding look_answer
@@ -68,6 +69,6 @@ returns c =
     let a = c.args in
     let p = c.pairs.ensures in
     let l = long_enough (goal.at.returns c).Else-work-n in
-    let o = none_off (goal.at.returns c).Else-some_fault in
-    let v : c.pairs.result ≡ look_answer a.radius a.work.now a.n a.marks.now = rw (l, o, sym c.some_fault-2.ensures ∙ c.if-some_fault-2.false) p.value in
+    let o = none_off (goal.at.returns c).Else-some_row in
+    let v : c.pairs.result ≡ look_answer a.radius a.work.now a.n a.marks.now = rw (l, o, sym (c.some_row-2.ensures is_point (λ v r h. search rules)) ∙ c.if-some_row-2.false) p.value in
     record { value = v; result_value = said (goal.at.returns c).Start v; marks_after = p.marks_after }
