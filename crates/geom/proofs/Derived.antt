@@ -24,14 +24,14 @@ unfolding before
 lt_is_before p q = by_tests (lt_z p.x.0 q.x.0) (lt_z q.x.0 p.x.0) (lt_z p.y.0 q.y.0) (lt_z q.y.0 p.y.0)
 
 -- the derived test of two numbers
-equal : (a b : ℤ) → is_eq (int_cmp a b) ≡ sameZ a b
+pub equal : (a b : ℤ) → is_eq (int_cmp a b) ≡ sameZ a b
 equal a b =
     by_ranked (a <ℤ b) (a ≡ b) (b <ℤ a) (int_cmp a b) (int_ranked a b (int_cmp a b) refl)
     (λ e h. simp tests)
     (λ e h. simp tests)
     (λ e h. simp tests)
 
-both : (a b : Bool) → a && b ≡ cond a b false
+pub both : (a b : Bool) → a && b ≡ cond a b false
 both true b = refl
 both false b = refl
 

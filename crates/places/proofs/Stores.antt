@@ -1,32 +1,20 @@
--- Two stores, three times: what they leave is the row put in its place.
-use mathlib.Core.Path.{◌≡◌}
-use mathlib.Core.List.{List}
-use Prim.Native.Nat.{ℕ, suc, ◌+◌, ◌*◌}
-use native.Mathlib.Omega.{arith}
-use lib.IntN.{ℤ}
-use lib.ListN.{length, length-set}
-use Rattle.whole.specs.Kind.{put_row}
-use Rattle.geom.specs.declared.Segment.{Segment}
-use Rattle.geom.specs.Rows.{two, segments}
+-- Numbers stored at the front of a part of a list are stored in the list, from the place on where the part starts.
+use Rattle.std.proofs.Common.{◌≡◌, refl, ap, ◌∙◌, sym, ℕ, zero, suc, ◌+◌, ◌-◌, ◌*◌, ◌≤◌, List, [], ◌∷◌, ◌++◌, length, take, drop, set, arith, length-drop}
+use Rattle.std.proofs.lemmas.List.{take_rest, drop_all, append-nil}
+use Rattle.std.proofs.lemmas.List.Edits.{sets}
+use borrow.Rule.Slice.PartMut.{put_mid}
 
-pub length_two : (l : List ℤ) (k : ℕ) (x y : ℤ) → length (two l k x y) ≡ length l
-length_two l k x y = simp length-set
+sets-cons : {N : Type 0} (x : N) (l : List N) (i : ℕ) (ns : List N) → sets (x ∷ l) (suc i) ns ≡ x ∷ sets l i ns
+sets-cons x l i [] = refl
+sets-cons x l i (n ∷ ns) = sets-cons x (set l i n) (suc i) ns
 
-pub two_thrice : (l : List ℤ) (i : ℕ) (v : Segment) → two (two (two l (6 * i) v.a.x.0 v.a.y.0) (6 * i + 2) v.b.x.0 v.b.y.0) (6 * i + 4) v.subject.0 v.clip.0 ≡ put_row segments l i v
-unfolding put_row
-two_thrice l i v = rw (at1, at3, at2, at5, at4)
-  where
-    at1 : 6 * i + 1 ≡ suc (6 * i)
-    at1 = omega arith
+sets-drop : {N : Type 0} (l : List N) (k : ℕ) (ns : List N) → k ≤ length l → take k l ++ sets (drop k l) 0 ns ≡ sets l k ns
+sets-drop l zero ns h = refl
+sets-drop [] (suc k) ns h = absurd (omega arith)
+sets-drop (x ∷ l) (suc k) ns h = ap (λ t. x ∷ t) (sets-drop l k ns (omega arith)) ∙ sym (sets-cons x l k ns)
 
-    at3 : 6 * i + 2 + 1 ≡ suc (suc (suc (6 * i)))
-    at3 = omega arith
-
-    at2 : 6 * i + 2 ≡ suc (suc (6 * i))
-    at2 = omega arith
-
-    at5 : 6 * i + 4 + 1 ≡ suc (suc (suc (suc (suc (6 * i)))))
-    at5 = omega arith
-
-    at4 : 6 * i + 4 ≡ suc (suc (suc (suc (6 * i))))
-    at4 = omega arith
+pub put_mid_sets : {N : Type 0} (l : List N) (w i v : ℕ) (ys ns : List N) → w ≡ v → v * i + v ≤ length l
+    → ys ≡ sets (take (length l - w * i) (drop (w * i) l)) 0 ns → put_mid (w * i) (length l - w * i) l ys ≡ sets l (v * i) ns
+put_mid_sets l w i v ys ns same h e =
+    let f = rw (same, take_rest l (v * i)) at e in
+    rw (same, f, drop_all (length l - v * i) (drop (v * i) l) (omega (arith, length-drop (v * i) l)), append-nil) (sets-drop l (v * i) ns (omega arith))

@@ -6,6 +6,8 @@ ghost use Rattle.whole.specs.Sum.{keep};
 ghost use Rattle.scan.specs.Scan.{entries, entry_of as entry_for, entries_from, named as named_by, EntryOf, live_at};
 
 use geom::{Point, Segment};
+use places::row;
+use places::row::Row;
 
 // An edge: the number of its segment, and its counts.
 #[derive(Clone, Copy)]
@@ -15,40 +17,54 @@ pub struct Entry {
     pub clip: i64,
 }
 
+impl Row for Entry {
+    type Number = i64;
+
+    ghost WIDTH = { entries.width };
+
+    const WIDTH: usize = 3;
+
+    ghost make = { entries.make };
+
+    ghost numbers = { entries.numbers };
+
+    fn from_front(row: &[i64]) -> Entry {
+        Entry {
+            segment: row[0],
+            subject: row[1],
+            clip: row[2],
+        }
+    }
+
+    fn put_front(self, row: &mut [i64]) {
+        row[..3].copy_from_slice(&[self.segment, self.subject, self.clip]);
+    }
+}
+
+#[tactic(auto, unfolding(whole::specs::Kind::row_at))]
 pub(crate) fn entry_at(scan: &[i64], k: usize) -> Entry
     requires { 3 * k + 3 ≤ length scan.now }
     ensures { result ≡ row_at entries scan.now k }
 {
-    Entry {
-        segment: scan[3 * k],
-        subject: scan[3 * k + 1],
-        clip: scan[3 * k + 2],
-    }
+    row::read(scan, k)
 }
 
+#[tactic(auto, unfolding(whole::specs::Kind::put_row))]
 pub(crate) fn put(scan: &mut [i64], k: usize, t: Entry)
     requires { 3 * k + 3 ≤ length scan.old }
     ensures { scan.new ≡ put_row entries scan.old k t }
 {
-    let segment = t.segment;
-    let subject = t.subject;
-    let clip = t.clip;
-    scan[3 * k] = segment;
-    scan[3 * k + 1] = subject;
-    scan[3 * k + 2] = clip;
+    row::write(scan, k, t)
 }
 
 // One more comes, and is kept if there is room for it.
+#[tactic(auto, unfolding(whole::specs::Kind::put_row, whole::specs::Append::put_next, whole::specs::Append::put_all))]
 fn push(scan: &mut [i64], room: usize, count: usize, t: Entry) -> usize
     requires room_in_bounds { 3 * room ≤ length scan.old }
     requires count_bound { count ≤ 4096 }
     ensures { Added entries room count scan.old (t ∷ []) result scan.new }
 {
-    if count < room {
-        put(scan, count, t);
-        return count + 1;
-    }
-    count + 1
+    row::push(scan, room, count, t)
 }
 
 fn entry_of(i: usize, v: Segment) -> Entry

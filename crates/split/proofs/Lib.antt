@@ -1,4 +1,5 @@
 -- Tidying.
+pub mod Derived
 pub mod Tidying
 pub mod LookLaws
 pub mod NoEndLaws

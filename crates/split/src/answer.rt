@@ -1,8 +1,8 @@
 // What a mark is, and what a look and tidying answer.
 use geom::Point;
 
-// Segment number `segment` is cut at `point`.
-#[derive(Clone, Copy)]
+// Segment number `segment` is cut at `point`. In order by the segment, then by the point.
+#[derive(Clone, Copy, PartialEq, Eq, PartialOrd, Ord)]
 pub struct Mark {
     pub segment: i32,
     pub point: Point,

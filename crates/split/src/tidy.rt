@@ -35,12 +35,11 @@ fn drop_repeats(marks: &mut [i32], count: usize) -> usize
     let mut kept: usize = 1;
     for i in 1..count {
         let m = mark::read(marks, i);
-        if mark::same(last, m) {
-            continue;
+        if last != m {
+            mark::write(marks, kept, m);
+            last = m;
+            kept += 1;
         }
-        mark::write(marks, kept, m);
-        last = m;
-        kept += 1;
     }
     kept
 }
