@@ -1,1 +1,2 @@
 pub mod Parity
+pub mod Numbers

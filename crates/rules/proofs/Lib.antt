@@ -1,2 +1,3 @@
 pub mod Exclude
 pub mod KeepLaws
+pub mod Numbers
