@@ -11,7 +11,7 @@ ghost use Rattle.groups.specs.Group.{is_far, joint, with_one, far_group, is_drop
 use geom::{Count, Point, Segment};
 
 // Equal neighbours as one: their ends and totals, and whether an equal pair was met up to here.
-#[derive(Clone, Copy)]
+#[derive(Clone, Copy, PartialEq, Eq)]
 pub struct Group {
     pub a: Point,
     pub b: Point,
@@ -27,39 +27,31 @@ pub fn join(g: Group, v: Segment) -> Group
     ensures value { result ≡ with_one g v }
     ensures subject_bound_2 { (nat_abs result.subject ≤ nat_abs g.subject + 2147483648) × (nat_abs result.clip ≤ nat_abs g.clip + 2147483648) }
 {
-    let a = g.a;
-    let b = g.b;
-    let subject = totals::total(g.subject, v.subject);
-    let clip = totals::total(g.clip, v.clip);
     Group {
-        a,
-        b,
-        subject,
-        clip,
+        subject: totals::total(g.subject, v.subject),
+        clip: totals::total(g.clip, v.clip),
         met: true,
+        ..g
     }
 }
 
 // A total is outside ±(2^31 - 1): refusal 9.
+#[tactic(auto, unfolding(crate::specs::Group::far_group))]
 pub fn too_big(g: Group) -> bool
     ensures { result ≡ far_group g }
 {
-    if far(g.subject) {
-        return true;
-    }
-    far(g.clip)
+    far(g.subject) || far(g.clip)
 }
 
+#[tactic(auto, unfolding(crate::specs::Group::is_far))]
 fn far(z: i64) -> bool
     ensures { result ≡ is_far z }
 {
-    if z < -2147483647 {
-        return true;
-    }
-    2147483647 < z
+    !(-2147483647..=2147483647).contains(&z)
 }
 
 // What the group leaves becomes row number w. The number of rows written then.
+#[tactic(auto, unfolding(crate::specs::Group::left, whole::specs::Kind::flat, whole::specs::Kind::put_row))]
 pub fn close(work: &mut [i32], w: usize, g: Group) -> usize
     requires w_in_bounds { 6 * w + 6 ≤ length work.old }
     requires sfits { SFits w32 g.subject }
@@ -74,15 +66,11 @@ pub fn close(work: &mut [i32], w: usize, g: Group) -> usize
     w + 1
 }
 
+#[tactic(auto, unfolding(crate::specs::Group::is_dropped, crate::specs::Group::is_empty))]
 fn dropped(g: Group) -> bool
     ensures { result ≡ is_dropped g }
 {
-    if g.met {
-        if totals::zero(g.subject) {
-            return totals::zero(g.clip);
-        }
-    }
-    false
+    g.met && g.subject == 0 && g.clip == 0
 }
 
 fn segment_of(g: Group) -> Segment
@@ -90,14 +78,10 @@ fn segment_of(g: Group) -> Segment
     requires sfits_2 { SFits w32 g.clip }
     ensures { result ≡ joint g }
 {
-    let a = g.a;
-    let b = g.b;
-    let subject = g.subject as i32;
-    let clip = g.clip as i32;
     Segment {
-        a,
-        b,
-        subject: Count(subject),
-        clip: Count(clip),
+        a: g.a,
+        b: g.b,
+        subject: Count(g.subject as i32),
+        clip: Count(g.clip as i32),
     }
 }
