@@ -1,16 +1,14 @@
--- A loop over rows that stops at the first one with a fault: what is left to look at has one exactly if the whole list has one. One law for each event. And what a list without the fault says of each row.
-use mathlib.Core.Path.{◌≡◌, refl, sym, ap, ◌∙◌}
+-- Whether some row has a fault, asked of the rows' numbers; and what a list without the fault says of each row.
+use mathlib.Core.Path.{◌≡◌, refl, ap}
 use Rattle.std.proofs.Common.{add-one}
 use Rattle.std.specs.List.{list_any, range_with_len}
-use mathlib.Core.Bool.{Bool, true, false, ◌||◌}
+use mathlib.Core.Bool.{Bool, false, ◌||◌}
 use mathlib.Core.List.{List}
 use mathlib.Core.Logic.{⊎_elim}
-use Prim.Native.Nat.{ℕ, zero, suc, ◌+◌, ◌-◌, ◌<◌, ◌≤◌}
-use native.Mathlib.Nat.{sub-zero}
+use Prim.Native.Nat.{ℕ, zero, suc, ◌+◌, ◌<◌, ◌≤◌}
 use native.Mathlib.Omega.{arith}
 use lib.IntN.{ℤ}
 use Rattle.whole.specs.Kind.{row_at, rows_from}
-use Rattle.whole.proofs.KindLaws.{rows_step, rows-done}
 use Rattle.whole.proofs.TestLaws.{neither, not_false}
 use Rattle.whole.specs.Total.{same_or}
 use Rattle.geom.specs.declared.Segment.{Segment}
@@ -20,37 +18,11 @@ use Rattle.geom.specs.Tests.{when_true}
 use Rattle.geom.proofs.TestsLaws.{grid_segment?}
 use Rattle.faults.specs.Faults.{some, is_off}
 
-abbrev whole : (Segment → Bool) → List ℤ → ℕ → Bool
-whole fault xs n = some fault (rows_from segments xs 0 n)
-
 -- the test of the rows' numbers is the test of the rows
 pub any_row : (has : Segment → Bool) (xs : List ℤ) (i n : ℕ) → list_any (λ k. has (row_at segments xs k)) (range_with_len i n) ≡ some has (rows_from segments xs i n)
 unfolding some rows_from
 any_row has xs i zero = refl
 any_row has xs i (suc n) = rw add-one (ap (λ t. has (row_at segments xs i) || t) (any_row has xs (suc i) n))
-
--- the rows before i have no fault
-pub record Clean (fault : Segment → Bool) (xs : List ℤ) (n i : ℕ) : Type 0 where
-  pub rest : some fault (rows_from segments xs i (n - i)) ≡ whole fault xs n
-
-pub clean_start : (fault : Segment → Bool) (xs : List ℤ) (n : ℕ) → Clean fault xs n 0
-clean_start fault xs n = record { rest = rw (sub-zero n) }
-
-module _ {fault : Segment → Bool} {xs : List ℤ} {n i : ℕ} (k : Clean fault xs n i) where
-  -- what the test says of row i
-  step : i < n → {v : Segment} {r : Bool} → v ≡ row_at segments xs i → r ≡ fault v → (r || some fault (rows_from segments xs (i + 1) (n - (i + 1)))) ≡ whole fault xs n
-  unfolding some
-  step h e f = rw (f, e) (sym (ap (some fault) (rows_step segments xs n i h)) ∙ k.rest)
-
-  pub clean_next : i < n → {v : Segment} {r : Bool} → v ≡ row_at segments xs i → r ≡ fault v → r ≡ false → Clean fault xs n (i + 1)
-  clean_next h e f g = record { rest = rw g at (step h e f) }
-
-  pub found : i < n → {v : Segment} {r : Bool} → v ≡ row_at segments xs i → r ≡ fault v → r ≡ true → true ≡ whole fault xs n
-  found h e f g = rw g at (step h e f)
-
-  pub clean_end : n ≤ i → false ≡ whole fault xs n
-  unfolding some
-  clean_end h = sym (ap (some fault) (rows-done segments xs n i h)) ∙ k.rest
 
 -- ---- none has it: no row has it
 

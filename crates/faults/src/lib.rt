@@ -1,8 +1,7 @@
 #![tactic(auto)]
 // What may be wrong with one segment of a list, refusals 3 to 5: off the grid, without length, a count of -2^31.
-ghost use Rattle.std.specs.Prelude.{Bool, ◌≡◌, ◌+◌, ◌*◌, ◌≤◌, negsuc, length};
+ghost use Rattle.std.specs.Prelude.{Bool, ◌≡◌, ◌+◌, ◌*◌, ◌≤◌, length};
 ghost use Rattle.whole.specs.Kind.{row_at, rows_from};
-ghost use Rattle.geom.specs.Plane.{sameZ};
 ghost use Rattle.geom.specs.Rows.{segments};
 ghost use Rattle.geom.specs.declared.Segment.{Segment as SegmentOf};
 ghost use Rattle.faults.specs.Faults.{some, is_off as off, is_point as point, has_least as least};

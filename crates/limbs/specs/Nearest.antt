@@ -1,9 +1,9 @@
 -- What the nearest quotient is, and how large it can be.
-use Rattle.std.specs.Prelude.{◌≡◌, ℕ, ◌+◌, ◌*◌, ◌^◌, ◌≤◌, ◌<◌}
+use Rattle.std.specs.Prelude.{◌≡◌, Ok, Err, ℕ, ◌+◌, ◌*◌, ◌^◌, ◌≤◌, ◌<◌}
 use Rattle.std.proofs.Common.{div-lt_iff_lt-mul, div-mul-le_self, mul-le-mul_right, arith, lt-ltb, le-ltb, ne_eqb}
 use Rattle.std.proofs.Math.Nat.{div-eq_of_lt-le, lt-div-mul-add}
 use Rattle.limbs.specs.Limbs.{rounded_of, nearest_of}
-use Rattle.limbs.specs.declared.Division.TheVariants.{Whole, NoDivisor, TooLarge}
+use Rattle.limbs.specs.declared.DivisionError.TheVariants.{NoDivisor, TooLarge}
 
 -- q is nearest to n / d, a half up: 2n - d < 2dq ≤ 2n + d, with d brought to where nothing is subtracted
 pub record IsNearest (n d q : ℕ) : Type 0 where
@@ -23,15 +23,15 @@ nearest-rounded {n} {d} {q} h = div-eq_of_lt-le {k = q} (2 * d) {m = 2 * n + d} 
 
 -- ---- the answer, by cases
 
-pub answer-none : (n : ℕ) {d : ℕ} → d ≡ 0 → nearest_of n d ≡ NoDivisor
+pub answer-none : (n : ℕ) {d : ℕ} → d ≡ 0 → nearest_of n d ≡ Err NoDivisor
 unfolding nearest_of
 answer-none n e = rw e
 
-pub answer-whole : {n d q : ℕ} → 0 < d → IsNearest n d q → q < 2 ^ 64 → nearest_of n d ≡ Whole q
+pub answer-whole : {n d q : ℕ} → 0 < d → IsNearest n d q → q < 2 ^ 64 → nearest_of n d ≡ Ok q
 unfolding nearest_of
 answer-whole {n} {d} {q} h x w = rw (ne_eqb d 0 (λ e. omega arith), nearest-rounded x, lt-ltb q (2 ^ 64) w)
 
-pub answer_large : {n d q : ℕ} → 0 < d → IsNearest n d q → 2 ^ 64 ≤ q → nearest_of n d ≡ TooLarge
+pub answer_large : {n d q : ℕ} → 0 < d → IsNearest n d q → 2 ^ 64 ≤ q → nearest_of n d ≡ Err TooLarge
 unfolding nearest_of
 answer_large {n} {d} {q} h x w = rw (ne_eqb d 0 (λ e. omega arith), nearest-rounded x, le-ltb q (2 ^ 64) w)
 
@@ -39,7 +39,7 @@ answer_large {n} {d} {q} h x w = rw (ne_eqb d 0 (λ e. omega arith), nearest-rou
 
 -- the answer is a number, and at most k
 pub record AtMost (n d k : ℕ) : Type 0 where
-  pub answer : nearest_of n d ≡ Whole (rounded_of n d)
+  pub answer : nearest_of n d ≡ Ok (rounded_of n d)
   pub most : rounded_of n d ≤ k
 
 -- n at most k times the divisor has a quotient of at most k

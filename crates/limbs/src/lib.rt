@@ -5,40 +5,34 @@ ghost use Rattle.std.specs.Prelude.{◌≡◌, ◌*◌, ◌^◌, ◌<◌};
 ghost use Rattle.std.specs.Int.Count.{count_leading_zeros};
 ghost use Rattle.limbs.specs.Limbs.{two_of};
 
-#[derive(Clone, Copy)]
+#[derive(Clone, Copy, PartialEq, Eq)]
 pub struct Two {
     pub high: u64,
     pub low: u64,
 }
 
-#[derive(Clone, Copy)]
+#[derive(Clone, Copy, PartialEq, Eq)]
 pub struct Quotient {
     pub whole: u64,
     pub rest: u64,
 }
 
 // No divisor and a quotient that no word holds are answers too, so that callers owe nothing.
-#[derive(Clone, Copy)]
-pub enum Division {
-    Whole(u64),
+#[derive(Clone, Copy, PartialEq, Eq)]
+pub enum DivisionError {
     NoDivisor,
     TooLarge,
 }
 
-// By halves of words, whose products a word holds.
+const WORD: u128 = 1 << 64;
+
 pub fn product(a: u64, b: u64) -> Two
     ensures { result ≡ two_of (a * b) }
 {
-    let a0 = a % 0x1_0000_0000;
-    let a1 = a / 0x1_0000_0000;
-    let b0 = b % 0x1_0000_0000;
-    let b1 = b / 0x1_0000_0000;
-    let first = a0 * b0;
-    let second = a1 * b0 + first / 0x1_0000_0000;
-    let third = a0 * b1 + second % 0x1_0000_0000;
+    let product = u128::from(a) * u128::from(b);
     Two {
-        high: a1 * b1 + second / 0x1_0000_0000 + third / 0x1_0000_0000,
-        low: third % 0x1_0000_0000 * 0x1_0000_0000 + first % 0x1_0000_0000,
+        high: (product / WORD) as u64,
+        low: (product % WORD) as u64,
     }
 }
 
@@ -47,5 +41,5 @@ pub fn factor(d: u64) -> u64
     requires { 0 < d }
     ensures { result ≡ 2 ^ count_leading_zeros 64 d }
 {
-    1u64 << u64::leading_zeros(d)
+    1 << d.leading_zeros()
 }

@@ -1,47 +1,20 @@
--- The steps to the middle point, over plain whole numbers: the size of a number and its sign, quotients that fit, and a share as a size with a sign.
+-- The steps to the middle point, over plain whole numbers: quotients that fit, and a share as a size with a sign.
 use mathlib.Core.Path.{◌≡◌, refl}
-use mathlib.Core.Bool.{true, false}
 use mathlib.Core.Logic.{◌≢◌, inl, inr}
 use Prim.Native.Nat.{ℕ, zero, suc, ◌*◌, ◌/◌, ◌<◌, ◌^◌}
 use native.Mathlib.Nat.{div-le_self, lt_of_le_of_lt}
 use native.Mathlib.Omega.{arith}
-use lib.Dec.{T}
 use lib.IntN.{ℤ, pos, negsuc, neg_ℤ, nat_abs, ◌-ℤ◌, ◌*ℤ◌}
-use lib.Signed.{lt_z, quot_z, non_neg, yes_non_neg, ◌<ℤ◌}
+use lib.Signed.{quot_z, ◌<ℤ◌}
 use mir.Syntax.{w64}
-use mir.Val.{SFits, Fits, of_z}
-use borrow.Author.Tests.{ltb-true}
-use Rattle.whole.specs.Order.{zz, sub_is, neg_is, split, lt-true, lt-false, bits_eq}
+use mir.Val.{SFits, of_z}
+use Rattle.whole.specs.Order.{zz, sub_is, split, bits_eq}
 use Rattle.whole.specs.Sign.{abs_is}
 use Rattle.whole.specs.Fit.{fits-abs}
 use Rattle.limbs.specs.Nearest.{nearest-rounded, AtMost, share_at_most}
 use Rattle.plane.specs.Meeting.{Parted}
 use Rattle.plane.specs.Quotients.{near, nearest}
 use Rattle.middles.specs.Middle.{signed_as, Same, over, under, Share}
-
--- ---- sizes
-
-pub minus_abs : (z : ℤ) → nat_abs (pos 0 -ℤ z) ≡ nat_abs z
-minus_abs z = omega (zz, abs_is (pos 0 -ℤ z), abs_is z, sub_is (pos 0) z, split z, split (pos 0 -ℤ z))
-
-pub minus_fits : (z : ℤ) → nat_abs z < 2 ^ 63 → SFits w64 (pos 0 -ℤ z)
-minus_fits z h = fits-abs w64 (pos 0 -ℤ z) (rw (minus_abs z) h)
-
-pub minus_size : (z : ℤ) → nat_abs z < 2 ^ 63 → lt_z z (pos 0) ≡ true → T (non_neg (pos 0 -ℤ z)) × Fits w64 (nat_abs (pos 0 -ℤ z))
-minus_size z h e = (yes_non_neg {z = pos 0 -ℤ z} (omega (zz, lt-true z (pos 0) e, sub_is (pos 0) z)), record { fits = omega (arith, minus_abs z) })
-
-pub own_size : (z : ℤ) → nat_abs z < 2 ^ 63 → lt_z z (pos 0) ≡ false → T (non_neg z) × Fits w64 (nat_abs z)
-own_size z h e = (yes_non_neg {z = z} (omega (zz, lt-false z (pos 0) e)), record { fits = omega arith })
-
--- ---- signs
-
-pub signed-under : (z : ℤ) (q : ℕ) → lt_z z (pos 0) ≡ true → pos 0 -ℤ pos q ≡ signed_as z q
-signed-under (pos z) q e = let l : z < 0 = ltb-true z 0 e in absurd (omega arith)
-signed-under (negsuc z) q e = omega (zz, sub_is (pos 0) (pos q), neg_is (pos q))
-
-pub signed-over : (z : ℤ) (q : ℕ) → lt_z z (pos 0) ≡ false → pos q ≡ signed_as z q
-signed-over (pos z) q e = refl
-signed-over (negsuc z) q e = let l : ◌≡◌ {A = ℕ} 0 1 = cc in absurd (omega arith)
 
 -- ---- the quotient cut toward zero
 

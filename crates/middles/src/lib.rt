@@ -1,6 +1,6 @@
 #![tactic(auto)]
 // The middle point of two segments that cross, in whole numbers: from target's a, the share n / d of the way to target's b; and how far a point is from their ends.
-ghost use Rattle.std.specs.Prelude.{◌≡◌, ◌≢◌, ◌<◌, ◌^◌, nat_abs, ◌+ℤ◌, ◌-ℤ◌, ◌*ℤ◌};
+ghost use Rattle.std.specs.Prelude.{◌≡◌, ◌≢◌, ◌<◌, ◌^◌, ◌+ℤ◌, ◌-ℤ◌, ◌*ℤ◌};
 ghost use Rattle.std.specs.Int.Signed.{quot_z};
 ghost use Rattle.geom.specs.Plane.{OnGrid, GridPoint, GridSegment, against};
 ghost use Rattle.plane.specs.Quotients.{nearest};
@@ -16,34 +16,13 @@ pub struct End {
     pub far: u64,
 }
 
-// How far z is from 0.
-fn size(z: i64) -> u64
-    requires { nat_abs z < 2 ^ 63 }
-    ensures { result ≡ nat_abs z }
-{
-    if z < 0 {
-        return (-z) as u64;
-    }
-    z as u64
-}
-
 // The number of size q that has the sign of z.
 fn signed(z: i64, q: u64) -> i64
     requires { q < 2 ^ 63 }
     ensures { result ≡ signed_as z q }
 {
-    if z < 0 {
-        return -(q as i64);
-    }
-    q as i64
-}
-
-// n / d, cut toward zero.
-fn cut(n: i64, d: i64) -> i64
-    requires { Cut n d }
-    ensures { result ≡ quot_z n d }
-{
-    n / d
+    let size = q as i64;
+    if z < 0 { -size } else { size }
 }
 
 // n * a / d to nearest, where n / d is between 0 and 1. The product needs two words; the quotient is no larger than a.
@@ -51,14 +30,17 @@ fn share(n: i64, d: i64, a: i64) -> i64
     requires { Share n d a }
     ensures { result ≡ nearest (n *ℤ a) d }
 {
-    signed(a, shares::share(size(n), size(d), size(a)))
+    signed(
+        a,
+        shares::share(n.unsigned_abs(), d.unsigned_abs(), a.unsigned_abs()),
+    )
 }
 
 fn moved(c: Coord, offset: i64) -> Coord
     requires { OnGrid (c.0 +ℤ offset) }
     ensures { result ≡ moved_by c offset }
 {
-    Coord((gaps::wide(c.0) + offset) as i32)
+    Coord((i64::from(c.0) + offset) as i32)
 }
 
 // The squared distance.
@@ -67,8 +49,8 @@ pub fn far(p: Point, q: Point) -> u64
     requires grid_point_2 { GridPoint q }
     ensures { result ≡ far_of p q }
 {
-    let w = size(gaps::gap(p.x, q.x));
-    let h = size(gaps::gap(p.y, q.y));
+    let w = gaps::gap(p.x, q.x).unsigned_abs();
+    let h = gaps::gap(p.y, q.y).unsigned_abs();
     w * w + h * h
 }
 
@@ -81,11 +63,10 @@ pub fn nearer(v: Segment, p: Point) -> End
     let a = far(v.a, p);
     let b = far(v.b, p);
     if a < b {
-        let point = v.a;
-        return End { point, far: a };
+        End { point: v.a, far: a }
+    } else {
+        End { point: v.b, far: b }
     }
-    let point = v.b;
-    End { point, far: b }
 }
 
 // c, moved by the cut quotient of p against other's line and the gap of f and g: a word holds both.
@@ -100,7 +81,7 @@ fn reduced(c: Coord, other: Segment, p: Point, f: Coord, g: Coord) -> Coord
 {
     let n = turns::turn(other.a, other.b, p);
     let d = gaps::gap(f, g);
-    moved(c, cut(n, d))
+    moved(c, n / d)
 }
 
 // On an upright target n / d is reduced by its height.
@@ -138,7 +119,7 @@ fn on_slope(target: Segment, other: Segment) -> Point
     ensures { result ≡ cross_point target other }
 {
     let n = turns::turn(other.a, other.b, target.a);
-    let d = gaps::minus(n, turns::turn(other.a, other.b, target.b));
+    let d = n - turns::turn(other.a, other.b, target.b);
     let x = moved(target.a.x, share(n, d, gaps::gap(target.b.x, target.a.x)));
     let y = moved(target.a.y, share(n, d, gaps::gap(target.b.y, target.a.y)));
     Point { x, y }
@@ -150,11 +131,11 @@ pub fn cross_point(target: Segment, other: Segment) -> Point
     requires middle { Middle target other }
     ensures { result ≡ cross_point target other }
 {
-    if order::same(target.a.x, target.b.x) {
-        return on_upright(target, other);
+    if target.a.x == target.b.x {
+        on_upright(target, other)
+    } else if target.a.y == target.b.y {
+        on_level(target, other)
+    } else {
+        on_slope(target, other)
     }
-    if order::same(target.a.y, target.b.y) {
-        return on_level(target, other);
-    }
-    on_slope(target, other)
 }

@@ -1,12 +1,14 @@
 -- From a quotient and its rest to the nearest, and the nearest under a factor.
-use mathlib.Core.Path.{◌≡◌}
+use mathlib.Core.Path.{◌≡◌, sym}
 use Prim.Native.Nat.{ℕ, ◌+◌, ◌-◌, ◌*◌, ◌^◌, ◌≤◌, ◌<◌}
 use native.Mathlib.Nat.{mul-div-mul_right, le-div_iff_mul-le, mul-lt-mul_of_pos_right, mul-le-mul_right}
 use native.Mathlib.Omega.{arith}
 use borrow.Author.Tests.{ne_eqb}
+use Rattle.std.specs.Prelude.{Option, Some, None, Err}
+use Rattle.std.specs.Option.{SomeIff, ok_or}
 use Rattle.limbs.specs.Limbs.{rounded_of, nearest_of}
-use Rattle.limbs.specs.Nearest.{IsNearest, rounded-nearest, answer_large}
-use Rattle.limbs.specs.declared.Division.TheVariants.{TooLarge}
+use Rattle.limbs.specs.Nearest.{IsNearest, rounded-nearest, answer-whole, answer_large}
+use Rattle.limbs.specs.declared.DivisionError.TheVariants.{TooLarge}
 
 pub down : (q : ℕ) {r d : ℕ} → r < d - r → IsNearest (q * d + r) d q
 down q h = record { above = omega arith; below = omega arith }
@@ -14,8 +16,13 @@ down q h = record { above = omega arith; below = omega arith }
 pub up : (q : ℕ) {r d : ℕ} → d - r ≤ r → r < d → IsNearest (q * d + r) d (q + 1)
 up q h k = record { above = omega arith; below = omega arith }
 
+-- the answer, where it is the next number up to the last word
+pub word_or_large : (o : Option ℕ) {n d q : ℕ} → SomeIff o (q < 2 ^ 64) q → 0 < d → IsNearest n d q → ok_or o TooLarge ≡ nearest_of n d
+word_or_large None h p x = sym (answer_large p x (omega arith))
+word_or_large (Some z) h p x = rw h.1 (sym (answer-whole p x h.0))
+
 -- a high word that is not below the divisor is too large
-pub too_high : (high low d : ℕ) → 0 < d → d ≤ high → nearest_of (high * 2 ^ 64 + low) d ≡ TooLarge
+pub too_high : (high low d : ℕ) → 0 < d → d ≤ high → nearest_of (high * 2 ^ 64 + low) d ≡ Err TooLarge
 too_high high low d p h =
     answer_large p (rounded-nearest (high * 2 ^ 64 + low) d p) ((le-div_iff_mul-le {k = 2 * d} {x = 2 ^ 64} {y = 2 * (high * 2 ^ 64 + low) + d} (omega arith)).1 (words (2 ^ 64) high low d h))
   where

@@ -3,7 +3,7 @@
 ghost use Rattle.std.specs.Prelude.{◌≡◌, ◌+◌, ◌*◌, ◌^◌, ◌≤◌, ◌<◌};
 ghost use Rattle.limbs.specs.Limbs.{value, two_of, quotient_of, nearest_of};
 
-use limbs::{Division, Quotient, Two};
+use limbs::{DivisionError, Quotient, Two};
 
 // One digit of a long division. The guess from the divisor's upper half is never below the digit and at most 2 above it;
 // where it is above, what it takes too much says by how far.
@@ -60,26 +60,23 @@ fn raised(n: Two, f: u64) -> Two
 }
 
 // From a quotient and its rest to the nearest, a half up.
-fn rounded(x: Quotient, d: u64) -> Division
+fn rounded(x: Quotient, d: u64) -> Result<u64, DivisionError>
     requires { x.rest < d }
     ensures { result ≡ nearest_of (x.whole * d + x.rest) d }
 {
-    let whole = x.whole;
     if x.rest < d - x.rest {
-        return Division::Whole(whole);
+        Ok(x.whole)
+    } else {
+        x.whole.checked_add(1).ok_or(DivisionError::TooLarge)
     }
-    if whole == u64::MAX {
-        return Division::TooLarge;
-    }
-    Division::Whole(whole + 1)
 }
 
 // To the nearest, a half up. The factor sets the divisor's top bit and leaves the quotient as it is.
-pub fn nearest(n: Two, d: u64) -> Division
+pub fn nearest(n: Two, d: u64) -> Result<u64, DivisionError>
     ensures { result ≡ nearest_of (value n) d }
 {
     if d == 0 {
-        return Division::NoDivisor;
+        return Err(DivisionError::NoDivisor);
     }
     if n.high == 0 {
         let x = Quotient {
@@ -89,7 +86,7 @@ pub fn nearest(n: Two, d: u64) -> Division
         return rounded(x, d);
     }
     if d <= n.high {
-        return Division::TooLarge;
+        return Err(DivisionError::TooLarge);
     }
     let f = limbs::factor(d);
     let divisor = d * f;

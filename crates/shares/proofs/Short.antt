@@ -1,6 +1,7 @@
 -- One digit below 2^31: what the guess wants is below the divisor, so it is at most 1 too large.
 use mathlib.Core.Path.{◌≡◌, refl, ap}
-use mathlib.Core.Bool.{Bool, true, false, cond}
+use mathlib.Core.Bool.{Bool, true, false}
+use mir.Val.{bool_byte}
 use Prim.Native.Nat.{ℕ, ◌+◌, ◌-◌, ◌*◌, ◌/◌, ◌%◌, ◌^◌, ◌≤◌, ◌<◌}
 use native.Mathlib.Nat.{div-lt_iff_lt-mul, mul-le-mul}
 use native.Mathlib.Omega.{arith}
@@ -30,10 +31,10 @@ short h l d t w b k =
 
 module _ {h l d : ℕ} (x : Short h l d) where
   -- what is taken off the guess
-  pub counted : {r : ℕ} → r ≡ cond (ltb (have h l d) (want h d)) 1 0 → (r ≤ h / upper d) × (h / upper d - r ≡ (h * 2 ^ 32 + l) / d)
+  pub counted : {r : ℕ} → r ≡ bool_byte (ltb (have h l d) (want h d)) → (r ≤ h / upper d) × (h / upper d - r ≡ (h * 2 ^ 32 + l) / d)
   counted {r} e = go (ltb (have h l d) (want h d)) refl e
     where
-      go : (b : Bool) → ltb (have h l d) (want h d) ≡ b → r ≡ cond b 1 0 → (r ≤ h / upper d) × (h / upper d - r ≡ (h * 2 ^ 32 + l) / d)
+      go : (b : Bool) → ltb (have h l d) (want h d) ≡ b → r ≡ bool_byte b → (r ≤ h / upper d) × (h / upper d - r ≡ (h * 2 ^ 32 + l) / d)
       go true f z =
           let k = ltb-true (have h l d) (want h d) f in
           rw z (at_least_one x.guess k, ap (λ (q : Quotient). q.whole) (one_less x.guess k (omega (arith, x.want_small, x.guess.top))))

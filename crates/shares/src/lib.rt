@@ -1,16 +1,7 @@
 #![tactic(auto)]
 // A share of a number, to the nearest. No step of it hangs on a test that a processor cannot guess.
-ghost use Rattle.std.specs.Prelude.{◌≡◌, cond, ◌+◌, ◌*◌, ◌/◌, ◌^◌, ◌≤◌, ◌<◌};
+ghost use Rattle.std.specs.Prelude.{◌≡◌, ◌+◌, ◌*◌, ◌/◌, ◌^◌, ◌≤◌, ◌<◌};
 ghost use Rattle.limbs.specs.Limbs.{rounded_of};
-
-fn bit(hit: bool) -> u64
-    ensures { result ≡ cond hit 1 0 }
-{
-    if hit {
-        return 1;
-    }
-    0
-}
 
 // One digit of a long division, where it is below 2^31: the guess from the divisor's upper half is at most 1 above it.
 fn short_digit(h: u64, l: u64, d: u64) -> u64
@@ -21,7 +12,7 @@ fn short_digit(h: u64, l: u64, d: u64) -> u64
     let d0 = d % 0x1_0000_0000;
     let guess = h / d1;
     let have = h % d1 * 0x1_0000_0000 + l;
-    guess - bit(have < guess * d0)
+    guess - u64::from(have < guess * d0)
 }
 
 // The share n / d of a, a half up: half of d is added before the division. The share is no larger than a: where a word does not hold

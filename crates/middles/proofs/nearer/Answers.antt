@@ -27,7 +27,7 @@ returns-then-a-b c =
     let s = c.args in
     at_a s.v s.p c.far-a.ensures c.far-b.ensures c.if-a-b.true
 
-pub returns : goal.returns
-returns c =
+pub returns-else-a-b : goal.returns-else-a-b
+returns-else-a-b c =
     let s = c.args in
     at_b s.v s.p c.far-a.ensures c.far-b.ensures c.if-a-b.false

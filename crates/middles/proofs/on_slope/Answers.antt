@@ -3,7 +3,7 @@ use mathlib.Core.Path.{◌≡◌, sym, ap₂, ◌∙◌}
 use lib.IntN.{ℤ, ◌+ℤ◌, ◌-ℤ◌, ◌*ℤ◌}
 use mir.Facts.{to_z-of_z}
 use mir.Syntax.{w64}
-use mir.Val.{to_z, of_z}
+use mir.Val.{SFits, to_z, of_z}
 use borrow.Author.Rules.{sfits_of}
 use Rattle.whole.specs.Fit.{fits-abs}
 use Rattle.geom.specs.declared.Coord.{Coord}
@@ -17,36 +17,40 @@ use Rattle.middles.proofs.Boxes.{middle_on_grid}
 use Rattle.middles.specs.Sizes.{divisor, width, height, divisor-near}
 use Rattle.middles.proofs.Ways.{share_x, share_y, slope_point}
 use Rattle.middles.proofs.on_slope.Goals as goal
-use Rattle.middles.proofs.on_slope.Goals.{After-gap, After-gap-2, After-minus-d, After-share, After-share-2, After-turn, After-turn-n, Start}
+use Rattle.middles.proofs.on_slope.Goals.{After-gap, After-gap-2, After-share, After-share-2, After-turn, Start}
 
-n_held : (c : After-turn-n) → let s = c.args in to_z w64 (of_z w64 c.turn-n.result) ≡ o₁ s.other s.target
+n_held : (c : After-turn) → let s = c.args in to_z w64 (of_z w64 c.turn-n.result) ≡ o₁ s.other s.target
 n_held c = to_z-of_z {w = w64} (sfits_of c.turn-n.type_inv) ∙ c.turn-n.ensures
 
 difference : (c : After-turn) → let s = c.args in to_z w64 (of_z w64 c.turn-n.result) -ℤ to_z w64 (of_z w64 c.turn.result) ≡ divisor s.target s.other
 difference c =
     let e : to_z w64 (of_z w64 c.turn.result) ≡ o₂ c.args.other c.args.target = to_z-of_z {w = w64} (sfits_of c.turn.type_inv) ∙ c.turn.ensures in
-    rw (n_held c.before.before.before.before, e)
+    rw (n_held c, e)
 
-pub minus-d-requires : goal.minus-d-requires
-minus-d-requires c =
-    rw (difference c) (fits-abs w64 (divisor c.args.target c.args.other) (divisor-near c.requires.grid_segment c.requires.grid_segment_2))
+fits : (c : After-turn) → SFits w64 (divisor c.args.target c.args.other)
+fits c = fits-abs w64 (divisor c.args.target c.args.other) (divisor-near c.requires.grid_segment c.requires.grid_segment_2)
 
-d-held : (c : After-minus-d) → let s = c.args in to_z w64 (of_z w64 c.minus-d.result) ≡ divisor s.target s.other
-d-held c = to_z-of_z {w = w64} (sfits_of c.minus-d.type_inv) ∙ c.minus-d.ensures ∙ difference c.before
+pub overflow_sub-d : goal.overflow_sub-d
+overflow_sub-d c = rw (difference c) (fits c)
+
+d-held : (c : After-turn) → let s = c.args in to_z w64 (of_z w64 (to_z w64 (of_z w64 c.turn-n.result) -ℤ to_z w64 (of_z w64 c.turn.result))) ≡ divisor s.target s.other
+d-held c = rw (difference c) (to_z-of_z (fits c))
 
 w_held : (c : After-gap) → to_z w64 (of_z w64 c.gap.result) ≡ width c.args.target
 w_held c = to_z-of_z {w = w64} (sfits_of c.gap.type_inv) ∙ c.gap.ensures
 
 pub share-requires : goal.share-requires
 share-requires c =
-    rw (n_held (goal.at.share-requires c).After-turn-n, d-held (goal.at.share-requires c).After-minus-d, w_held c) (share_x c.requires.grid_segment c.requires.grid_segment_2 c.requires.middle)
+    let k = (goal.at.share-requires c).After-turn in
+    rw (d-held k, n_held k, w_held c) (share_x c.requires.grid_segment c.requires.grid_segment_2 c.requires.middle)
 
 abbrev offset : Segment → Segment → ℤ → ℤ
 offset t o a = nearest (o₁ o t *ℤ a) (divisor t o)
 
 x-held : (c : After-share) → let s = c.args in to_z w64 (of_z w64 c.share.result) ≡ offset s.target s.other (width s.target)
 x-held c =
-    to_z-of_z {w = w64} (sfits_of c.share.type_inv) ∙ c.share.ensures ∙ rw (n_held c.before.before.before.before.before.before.before.before.before.before, d-held c.before.before.before.before.before, w_held c.before)
+    let k = c.before.before.before.before.before in
+    to_z-of_z {w = w64} (sfits_of c.share.type_inv) ∙ c.share.ensures ∙ rw (d-held k, n_held k, w_held c.before)
 
 way : (c : Start) → let t = c.args.target in let o = c.args.other in cross_point t o ≡ point (t.a.x.0 +ℤ offset t o (width t)) (t.a.y.0 +ℤ offset t o (height t))
 way c = slope_point c.requires.grid_segment c.requires.grid_segment_2 c.requires.middle c.requires.x_nonzero c.requires.y_nonzero
@@ -62,11 +66,13 @@ h-held c = to_z-of_z {w = w64} (sfits_of c.gap-2.type_inv) ∙ c.gap-2.ensures
 
 pub share-requires-2 : goal.share-requires-2
 share-requires-2 c =
-    rw (n_held (goal.at.share-requires-2 c).After-turn-n, d-held (goal.at.share-requires-2 c).After-minus-d, h-held c) (share_y c.requires.grid_segment c.requires.grid_segment_2 c.requires.middle)
+    let k = (goal.at.share-requires-2 c).After-turn in
+    rw (d-held k, n_held k, h-held c) (share_y c.requires.grid_segment c.requires.grid_segment_2 c.requires.middle)
 
 y-held : (c : After-share-2) → let s = c.args in to_z w64 (of_z w64 c.share-2.result) ≡ offset s.target s.other (height s.target)
 y-held c =
-    to_z-of_z {w = w64} (sfits_of c.share-2.type_inv) ∙ c.share-2.ensures ∙ rw (n_held c.before.before.before.before.before.before.before.before.before.before.before.before.before.before.before.before, d-held c.before.before.before.before.before.before.before.before.before.before.before, h-held c.before)
+    let k = c.before.before.before.before.before.before.before.before.before.before.before in
+    to_z-of_z {w = w64} (sfits_of c.share-2.type_inv) ∙ c.share-2.ensures ∙ rw (d-held k, n_held k, h-held c.before)
 
 pub moved-y-requires : goal.moved-y-requires
 moved-y-requires c = rw (y-held c) (landing (goal.at.moved-y-requires c).Start).y

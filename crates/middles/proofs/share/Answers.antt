@@ -9,30 +9,16 @@ use borrow.Author.Rules.{sfits_of}
 use Rattle.plane.specs.Quotients.{near}
 use Rattle.middles.proofs.Steps.{share_is, share_most}
 use Rattle.middles.proofs.share.Goals as goal
-use Rattle.middles.proofs.share.Goals.{After-share, After-size, After-size-2, After-size-3}
+use Rattle.middles.proofs.share.Goals.{After-share, After-unsigned_abs, After-unsigned_abs-2, After-unsigned_abs-3}
 
-pub size-requires : goal.size-requires
-size-requires c = rw (to_z-of_z c.ranges.n) (omega (arith, c.requires.less, c.requires.d_small))
+n-is : (c : After-unsigned_abs) → c.unsigned_abs.result ≡ nat_abs c.args.n
+n-is c = c.unsigned_abs.ensures.value ∙ rw (to_z-of_z c.ranges.n)
 
-pub size-requires-2 : goal.size-requires-2
-size-requires-2 c = rw (to_z-of_z c.ranges.d) c.requires.d_small
+d-is : (c : After-unsigned_abs-2) → c.unsigned_abs-2.result ≡ nat_abs c.args.d
+d-is c = c.unsigned_abs-2.ensures.value ∙ rw (to_z-of_z c.ranges.d)
 
-pub size-requires-3 : goal.size-requires-3
-size-requires-3 c = rw (to_z-of_z c.ranges.a) (omega (arith, c.requires.a_small))
-
-n-is : (c : After-size) → c.size.result ≡ nat_abs c.args.n
-n-is c = c.size.ensures ∙ rw (to_z-of_z c.ranges.n)
-
-d-is : (c : After-size-2) → c.size-2.result ≡ nat_abs c.args.d
-d-is c = c.size-2.ensures ∙ rw (to_z-of_z c.ranges.d)
-
-a-is : (c : After-size-3) → c.size-3.result ≡ nat_abs c.args.a
-a-is c = c.size-3.ensures ∙ rw (to_z-of_z c.ranges.a)
-
-pub share-requires : goal.share-requires
-share-requires c =
-    let p = c.requires in
-    rw (n-is (goal.at.share-requires c).After-size, d-is (goal.at.share-requires c).After-size-2, a-is c) (omega (arith, p.less), omega (arith, p.less), omega (arith, p.a_small))
+a-is : (c : After-unsigned_abs-3) → c.unsigned_abs-3.result ≡ nat_abs c.args.a
+a-is c = c.unsigned_abs-3.ensures.value ∙ rw (to_z-of_z c.ranges.a)
 
 share-held : (c : After-share) → let s = c.args in c.share.result ≡ near (nat_abs s.n * nat_abs s.a) (nat_abs s.d)
 share-held c = c.share.ensures ∙ rw (n-is c.before.before.before, d-is c.before.before, a-is c.before)

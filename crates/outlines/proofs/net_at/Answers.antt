@@ -6,8 +6,8 @@ use Rattle.outlines.proofs.net_at.Goals as goal
 pub loop-j-init : goal.loop-j-init
 loop-j-init c = tally_start c.args.p c.args.rows.now c.args.n
 
-pub read-v-requires : goal.read-v-requires
-read-v-requires c = omega (arith, c.requires.n_in_bounds)
+pub read-requires : goal.read-requires
+read-requires c = omega (arith, c.requires.n_in_bounds)
 
 pub counted-net-requires : goal.counted-net-requires
 counted-net-requires c =
@@ -15,7 +15,7 @@ counted-net-requires c =
 
 pub loop-j-preserved : goal.loop-j-preserved
 loop-j-preserved c =
-    tally_next c.loop-j.invariant c.loop-j-test.true c.read-v.ensures (c.counted-net.ensures.value, c.counted-net.ensures.subject_bound_2)
+    tally_next c.loop-j.invariant c.loop-j-test.true c.read.ensures (c.counted-net.ensures.value, c.counted-net.ensures.subject_bound_2)
 
 pub returns : goal.returns
 returns c = tally_end c.loop-j.invariant c.loop-j-test.false

@@ -1,15 +1,12 @@
 -- `quotients::rounded` meets its contract: a rest of half the divisor, or more, counts up.
-use mathlib.Core.Path.{sym}
+use mathlib.Core.Path.{sym, ◌∙◌}
 use native.Mathlib.Omega.{arith}
-use Rattle.limbs.specs.Nearest.{answer-whole, answer_large}
-use Rattle.quotients.proofs.Rounding.{down, up}
+use Rattle.limbs.specs.Nearest.{answer-whole}
+use Rattle.quotients.proofs.Rounding.{down, up, word_or_large}
 use Rattle.quotients.proofs.rounded.Goals as goal
 
 pub returns-then-x-d : goal.returns-then-x-d
 returns-then-x-d c = sym (answer-whole (omega arith) (down _ (omega arith)) (omega arith))
 
-pub returns-then-whole : goal.returns-then-whole
-returns-then-whole c = sym (answer_large (omega arith) (up _ (omega arith) (omega arith)) (omega arith))
-
-pub returns : goal.returns
-returns c = sym (answer-whole (omega arith) (up _ (omega arith) (omega arith)) (omega arith))
+pub returns-else-x-d : goal.returns-else-x-d
+returns-else-x-d c = c.ok_or.ensures.value ∙ word_or_large c.checked_add.result c.checked_add.ensures (omega arith) (up _ (omega arith) (omega arith))

@@ -17,7 +17,7 @@ pub overflow_mul-guess : goal.overflow_mul-guess
 overflow_mul-guess c = let g = (guess c).guess in omega arith
 
 pub overflow_sub-result : goal.overflow_sub-result
-overflow_sub-result c = (counted (guess c.before) c.bit.ensures).0
+overflow_sub-result c = (counted (guess c.before) c.from.ensures).0
 
 pub returns : goal.returns
-returns c = (counted (guess c.before) c.bit.ensures).1
+returns c = (counted (guess c.before) c.from.ensures).1
