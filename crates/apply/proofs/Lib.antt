@@ -1,4 +1,5 @@
 -- In reading order: marks in order; the runs of the marks of each segment; the list from its back; each answer.
+pub mod Derived
 pub mod Ordered
 pub mod Runs
 pub mod Back

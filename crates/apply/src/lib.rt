@@ -4,14 +4,13 @@
 // and each segment is read before anything is written over it.
 ghost use Rattle.std.specs.Prelude.{◌≡◌, true, false, ◌+◌, ◌-◌, ◌*◌, ◌≤◌, ◌<◌, pos, length};
 ghost use Rattle.std.proofs.lemmas.List.Edits.{sets};
-ghost use Rattle.std.specs.Int.Signed.{lt_z};
 ghost use Rattle.whole.specs.Kind.{row_at, rows_from, flat};
 ghost use Rattle.geom.specs.Plane.{sameZ};
 ghost use Rattle.geom.specs.Rows.{segments};
 ghost use Rattle.faults.specs.Faults.{some, has_least};
 ghost use Rattle.split.specs.Marks.{marks as mark_rows};
 ghost use Rattle.split.specs.Chain.{split as split_of};
-ghost use Rattle.apply.specs.Answer.{names as names_of, earlier as is_earlier, leads as leads_to, in_order, apply_answer, apply_list};
+ghost use Rattle.apply.specs.Answer.{names as names_of, leads as leads_to, in_order, apply_answer, apply_list};
 ghost use Rattle.apply.specs.Said.{apply_says, apply_said};
 ghost use Rattle.apply.specs.Start.{start_of};
 
@@ -48,7 +47,7 @@ pub fn apply(work: &mut [i32], n: usize, marks: &[i32], count: usize) -> Applied
             return Applied::BadCount;
         }
         if room < n + count {
-            lists::clear_i32(work);
+            work.fill(0);
             return Applied::Full;
         }
         cut_all(work, n, marks, count);
@@ -65,33 +64,12 @@ fn is_of(m: Mark, i: usize) -> bool
     m.segment == i as i32
 }
 
+#[tactic(auto, unfolding(crate::specs::Answer::names))]
 fn names(m: Mark, n: usize) -> bool
     requires { n ≤ 2048 }
     ensures { result ≡ names_of n m }
 {
-    if m.segment < 0 {
-        return false;
-    }
-    m.segment < n as i32
-}
-
-// The segment of m comes before that of k.
-fn of_lower(m: Mark, k: Mark) -> bool
-    ensures { result ≡ lt_z m.segment k.segment }
-{
-    m.segment < k.segment
-}
-
-fn earlier(m: Mark, k: Mark) -> bool
-    ensures { result ≡ is_earlier m k }
-{
-    if of_lower(m, k) {
-        return true;
-    }
-    if of_lower(k, m) {
-        return false;
-    }
-    order::before(m.point, k.point)
+    (0..n as i32).contains(&m.segment)
 }
 
 // Mark number i is earlier than the one after it.
@@ -100,10 +78,7 @@ fn leads(marks: &[i32], i: usize, count: usize) -> bool
     requires count_in_bounds { 3 * count ≤ length marks.now }
     ensures { result ≡ leads_to (row_at mark_rows marks.now i) (rows_from mark_rows marks.now (i + 1) (count - (i + 1))) }
 {
-    if i + 1 < count {
-        return earlier(mark::read(marks, i), mark::read(marks, i + 1));
-    }
-    true
+    i + 1 == count || mark::read(marks, i) < mark::read(marks, i + 1)
 }
 
 fn in_order(marks: &[i32], count: usize, n: usize) -> bool
@@ -112,10 +87,7 @@ fn in_order(marks: &[i32], count: usize, n: usize) -> bool
     ensures { result ≡ in_order n (rows_from mark_rows marks.now 0 count) }
 {
     for i in 0..count {
-        if names(mark::read(marks, i), n) {} else {
-            return false;
-        }
-        if leads(marks, i, count) {} else {
+        if !(names(mark::read(marks, i), n) && leads(marks, i, count)) {
             return false;
         }
     }
@@ -131,10 +103,8 @@ fn cut_all(work: &mut [i32], n: usize, marks: &[i32], count: usize)
     requires n_value { some has_least (rows_from segments work.old 0 n) ≡ false }
     ensures { work.new ≡ sets work.old 0 (flat segments (split_of (rows_from mark_rows marks.now 0 count) (rows_from segments work.old 0 n))) }
 {
-    let mut i = n;
     let mut e = count;
-    while 0 < i {
-        i -= 1;
+    for i in (0..n).rev() {
         let a = run_start(marks, i, e);
         let v = places::read(work, i);
         chains::cut(work, i + a, v, &marks[3 * a..3 * e], e - a);
@@ -149,12 +119,10 @@ fn run_start(marks: &[i32], i: usize, e: usize) -> usize
     ensures value { result ≡ start_of i marks.now e }
     ensures upper_bound { result ≤ e }
 {
-    let mut a = e;
-    while 0 < a {
-        if is_of(mark::read(marks, a - 1), i) {} else {
-            return a;
+    for a in (0..e).rev() {
+        if !is_of(mark::read(marks, a), i) {
+            return a + 1;
         }
-        a -= 1;
     }
-    a
+    0
 }

@@ -23,7 +23,7 @@ pub fn cut(work: &mut [i32], at: usize, v: Segment, run: &[i32], size: usize)
     let mut g: usize = 0;
     while g < size {
         let e = column_end(run, g, size);
-        let back = order::less(next_y(run, e, size, v.b), p.y);
+        let back = next_y(run, e, size, v.b) < p.y;
         p = walk(work, at + g, v, p, &run[3 * g..3 * e], e - g, back);
         g = e;
     }
@@ -37,17 +37,15 @@ fn column_end(run: &[i32], g: usize, size: usize) -> usize
     ensures value { result ≡ g + 1 + joined (point_at run.now g) (points run.now (g + 1) (size - (g + 1))) }
     ensures lower_bound { (g < result) × (result ≤ size) }
 {
-    let mut e = g + 1;
     let mut p = mark::read(run, g).point;
-    while e < size {
+    for e in g + 1..size {
         let q = mark::read(run, e).point;
-        if order::same(p.x, q.x) {} else {
+        if p.x != q.x {
             return e;
         }
         p = q;
-        e += 1;
     }
-    e
+    size
 }
 
 // The y of the point after a column: the next mark in the sorted run, or b.
@@ -57,9 +55,10 @@ fn next_y(run: &[i32], e: usize, size: usize, b: Point) -> Coord
     ensures { result.0 ≡ next_y b (columns (points run.now e (size - e))) }
 {
     if e < size {
-        return mark::read(run, e).point.y;
+        mark::read(run, e).point.y
+    } else {
+        b.y
     }
-    b.y
 }
 
 // The pieces of v from p through the marks of a column, the last mark first if `back`, become the rows from number `at` on. The last point.
@@ -80,27 +79,22 @@ fn walk(
     ensures work_after { work.new ≡ sets work.old (6 * at) (flat segments (pieces_to v p (taken back column.now size size))) }
 {
     let mut last = p;
-    let mut left = size;
-    while 0 < left {
-        let q = next_point(column, size, left, back);
-        places::write(work, at + (size - left), piece(v, last, q));
+    for i in 0..size {
+        let q = next_point(column, size, i, back);
+        places::write(work, at + i, piece(v, last, q));
         last = q;
-        left -= 1;
     }
     last
 }
 
-// The first of the points of a column that are left.
-fn next_point(column: &[i32], size: usize, left: usize, back: bool) -> Point
-    requires left_nonzero { 0 < left }
-    requires left_le_size { left ≤ size }
+// Point number i of a column, from its end on if `back`.
+fn next_point(column: &[i32], size: usize, i: usize, back: bool) -> Point
+    requires i_lt_size { i < size }
     requires size_in_bounds { 3 * size ≤ length column.now }
-    ensures { result ≡ point_at column.now (cond back (left - 1) (size - left)) }
+    ensures { result ≡ point_at column.now (cond back (size - 1 - i) i) }
 {
-    if back {
-        return mark::read(column, left - 1).point;
-    }
-    mark::read(column, size - left).point
+    let k = if back { size - 1 - i } else { i };
+    mark::read(column, k).point
 }
 
 // The piece of v from p to q, turned if needed.

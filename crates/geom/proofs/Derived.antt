@@ -23,7 +23,15 @@ pub lt_is_before : (p q : Point) → partial_lt partial_cmp-value.it p q ≡ bef
 unfolding before
 lt_is_before p q = by_tests (lt_z p.x.0 q.x.0) (lt_z q.x.0 p.x.0) (lt_z p.y.0 q.y.0) (lt_z q.y.0 p.y.0)
 
--- the derived test of two numbers
+-- the derived tests of two numbers
+pub less : (a b : ℤ) → is_lt (int_cmp a b) ≡ lt_z a b
+less a b = by_order (lt_z a b) (lt_z b a)
+  where
+    by_order : (c d : Bool) → is_lt (cond c Less (cond d Greater Equal)) ≡ c
+    by_order true d = refl
+    by_order false true = refl
+    by_order false false = refl
+
 pub equal : (a b : ℤ) → is_eq (int_cmp a b) ≡ sameZ a b
 equal a b =
     by_ranked (a <ℤ b) (a ≡ b) (b <ℤ a) (int_cmp a b) (int_ranked a b (int_cmp a b) refl)

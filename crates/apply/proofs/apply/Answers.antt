@@ -45,7 +45,7 @@ returns-then-room-n-2 c =
     let ordered = sym c.in_order.ensures ∙ c.if-in_order.true in
     let least = sym (c.some_row.ensures has_least (λ v r h. search rules)) ∙ c.if-some_row.false in
     let e = no_room x.work.now x.n x.marks.now x.count (omega arith) (omega arith) ordered least (omega arith) in
-    record { value = sym e; result_value = said _ _ _ _ (sym e); work_after = c.clear_i32.ensures }
+    record { value = sym e; result_value = said _ _ _ _ (sym e); work_after = search rules }
 
 pub cut_all-requires : goal.cut_all-requires
 cut_all-requires c =

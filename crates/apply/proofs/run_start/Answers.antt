@@ -1,5 +1,6 @@
 -- `apply::run_start` meets its contract. The loop's invariant: the marks before number a have the same start of the run.
-use mathlib.Core.Path.{refl, sym, ap, ◌∙◌}
+use Prim.Native.Nat.{◌+◌, ◌-◌}
+use mathlib.Core.Path.{◌≡◌, refl, sym, ap, ◌∙◌}
 use native.Mathlib.Omega.{arith}
 use lib.IntN.{pos}
 use Rattle.geom.specs.Plane.{sameZ}
@@ -9,22 +10,24 @@ use Rattle.apply.proofs.run_start.Goals as goal
 pub loop-a-init : goal.loop-a-init
 loop-a-init c = (omega arith, refl)
 
-pub returns-else-is_of : goal.returns-else-is_of
-returns-else-is_of c =
+pub returns-then-not-is_of : goal.returns-then-not-is_of
+returns-then-not-is_of c =
     let l = c.loop-a in
     let x = c.args in
-    let t = sym (ap (λ m. sameZ m.segment (pos x.i)) c.read.ensures) ∙ sym c.is_of.ensures ∙ c.if-is_of.false in
-    record { value = sym (start-here x.i x.marks.now l.a (omega arith) t) ∙ l.invariant.1; upper_bound = l.invariant.0 }
+    let t = sym (ap (λ m. sameZ m.segment (pos x.i)) c.read.ensures) ∙ sym c.is_of.ensures ∙ c.if-not-is_of.true in
+    let a : l.a - 1 + 1 ≡ l.a = omega arith in
+    record { value = a ∙ sym (start-here x.i x.marks.now l.a (omega arith) t) ∙ l.invariant.1; upper_bound = omega arith }
 
 pub loop-a-preserved : goal.loop-a-preserved
 loop-a-preserved c =
     let l = c.loop-a in
     let x = c.args in
-    let t = sym (ap (λ m. sameZ m.segment (pos x.i)) c.read.ensures) ∙ sym c.is_of.ensures ∙ c.if-is_of.true in
+    let t = sym (ap (λ m. sameZ m.segment (pos x.i)) c.read.ensures) ∙ sym c.is_of.ensures ∙ c.if-not-is_of.false in
     (omega arith, sym (start-more x.i x.marks.now l.a (omega arith) t) ∙ l.invariant.1)
 
 pub returns : goal.returns
 returns c =
     let l = c.loop-a in
     let x = c.args in
-    record { value = sym (start_none x.i x.marks.now l.a (omega arith)) ∙ l.invariant.1; upper_bound = l.invariant.0 }
+    let z : 0 ≡ l.a = omega arith in
+    record { value = z ∙ sym (start_none x.i x.marks.now l.a (omega arith)) ∙ l.invariant.1; upper_bound = omega arith }

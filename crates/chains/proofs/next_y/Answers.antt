@@ -14,8 +14,8 @@ returns-then-e-size c =
     ap (λ m. m.point.y.0) c.read.ensures
     ∙ sym (ap (λ ps. next_y x.b (columns ps)) (points-step zs x.size x.e (omega arith)) ∙ next_y-first x.b (point_at zs x.e) (points zs (x.e + 1) (x.size - (x.e + 1))))
 
-pub returns : goal.returns
+pub returns-else-e-size : goal.returns-else-e-size
 unfolding next_y columns
-returns c =
+returns-else-e-size c =
     let x = c.args in
     sym (ap (λ ps. next_y x.b (columns ps)) (points-done x.run.now x.size x.e (omega arith)))

@@ -7,12 +7,9 @@ use Rattle.chains.specs.Steps.{pieces_to, taken}
 use Rattle.chains.proofs.Pieces.{rows_at}
 use Rattle.chains.proofs.walk.Given as goal
 
-abbrev pub invariant-loop-left : goal.invariant-loop-left
-invariant-loop-left l =
-    (l.left ≤ l.size)
+abbrev pub invariant-loop-i : goal.invariant-loop-i
+invariant-loop-i l =
+    (l.i ≤ l.size)
     × (length l.work ≡ length l.initial.work)
-    × (last_of l.last (taken l.back l.column l.size l.left) ≡ last_of l.initial.last (taken l.back l.column l.size l.size))
-    × (rows_at l.work (l.at + (l.size - l.left)) (pieces_to l.v l.last (taken l.back l.column l.size l.left)) ≡ rows_at l.initial.work l.at (pieces_to l.v l.initial.last (taken l.back l.column l.size l.size)))
-
-abbrev pub decreases-loop-left : goal.decreases-loop-left
-decreases-loop-left l = l.left
+    × (last_of l.last (taken l.back l.column l.size (l.size - l.i)) ≡ last_of l.initial.last (taken l.back l.column l.size l.size))
+    × (rows_at l.work (l.at + l.i) (pieces_to l.v l.last (taken l.back l.column l.size (l.size - l.i))) ≡ rows_at l.initial.work l.at (pieces_to l.v l.initial.last (taken l.back l.column l.size l.size)))
