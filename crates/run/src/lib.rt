@@ -66,7 +66,7 @@ fn until_settled(input: &[i32], settings: Settings, work: &mut [i32], marks: &mu
     let n = settings.n;
     let budget = settings.budget as usize;
     steps::begin(input, n, work);
-    let steps::Joined::Rows(m) = steps::join(work, n) else {
+    let Ok(m) = steps::join(work, n) else {
         return Step::Refused(Answer::TooBig);
     };
     settle::looks(work, m, marks, budget)
