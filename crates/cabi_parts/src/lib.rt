@@ -13,7 +13,7 @@ ghost use Rattle.build.specs.Fill.{said, number_of, fill_said};
 ghost use Rattle.cabi_parts.specs.Parts.{rows_in, marks_in};
 
 use build::sweep::Filled;
-use segm::Merged;
+use segm::{MergeError, Merged};
 use split::answer::Looked;
 
 // The first n rows of six numbers in order.
@@ -58,14 +58,12 @@ pub extern "C" fn ciwetanos_sweep(
     number(build::sweep::fill(work, n, fill, rule, scan, masks))
 }
 
-fn rows_in(a: Merged) -> usize
+fn rows_in(a: Result<Merged, MergeError>) -> usize
     ensures { result ≡ rows_in a }
 {
     match a {
-        Merged::Joined(m) => m,
-        Merged::Same(m) => m,
-        Merged::Short => 0,
-        Merged::TooBig => 0,
+        Ok(merged) => merged.left,
+        Err(_) => 0,
     }
 }
 

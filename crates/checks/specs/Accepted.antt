@@ -1,5 +1,5 @@
 -- What an input without a fault has: the table's sentences, none of which holds, said the other way round.
-use Rattle.std.specs.Prelude.{◌≡◌, false, List, ℕ, ◌*◌, ◌^◌, ◌<◌, ◌≤◌, ℤ, pos, neg_ℤ, length}
+use Rattle.std.specs.Prelude.{◌≡◌, false, List, ℕ, ◌*◌, ◌^◌, ◌<◌, ◌≤◌, ℤ, pos, neg_ℤ, length, Ok}
 use Rattle.std.proofs.Common.{inl, inr, arith}
 use Rattle.std.proofs.lemmas.Bool.{not-false}
 use Rattle.whole.specs.Kind.{rows_from}
@@ -15,7 +15,6 @@ use Rattle.geom.proofs.TestsLaws.{grid_segment?}
 use Rattle.segm.specs.Balance.{Balanced, balanced}
 use Rattle.segm.specs.BalanceLaws.{uneven?, balanced_test}
 use Rattle.faults.specs.Faults.{some, is_off}
-use Rattle.checks.specs.declared.Fault.TheVariants.{Sound}
 use Rattle.checks.specs.declared.Settings.{Settings}
 use Rattle.checks.specs.Checks.{is_short, fault_of}
 use Rattle.checks.specs.Exactly.{TooShort, OutOfRange, Has, OpenOutline, CoordinateOutside, short?, has?, off?, exactly}
@@ -80,10 +79,10 @@ all_on_grid L e = all_map on_grid_lem (all_not L (when_false (has? off? L) e))
 is_balanced : (L : List Segment) → (OpenOutline L → ⊥) → (d : Side) → Balanced (count d) L
 is_balanced L f d = (balanced_test (count d) L).0 (of_true (not-false (balanced (count d) L) (fails (uneven? (count d) L) (λ u. f (d, u)))))
 
-pub accepted : (input : List ℤ) (s : Settings) (work masks : ℕ) → fault_of input s work masks ≡ Sound → Accepted input s work masks
+pub accepted : (input : List ℤ) (s : Settings) (work masks : ℕ) → fault_of input s work masks ≡ Ok tt → Accepted input s work masks
 accepted input s work masks e =
     let L = rows_from segments input 0 s.n in
-    let n = (exactly input s work masks Sound).0 e in
+    let n = (exactly input s work masks (Ok tt)).0 e in
     record {
       roomy = has_room n.0;
       in_range = is_in_range n.1;

@@ -1,5 +1,5 @@
 -- Refusals 1 to 6 in the words of the table ("Input and answer"), and the theorem: each is given exactly when no earlier one applies and its sentence holds.
-use Rattle.std.specs.Prelude.{◌≡◌, refl, Bool, true, false, not, cond, ◌&&◌, List, [], ◌∷◌, ◌↔◌, ◌⊎◌, ℕ, ◌*◌, ◌^◌, ◌<◌, ℤ, pos, neg_ℤ, length, ◌≤ℤ◌, ◌<ℤ◌}
+use Rattle.std.specs.Prelude.{◌≡◌, refl, Bool, true, false, not, cond, ◌&&◌, List, [], ◌∷◌, ◌↔◌, ◌⊎◌, ℕ, ◌*◌, ◌^◌, ◌<◌, ℤ, pos, neg_ℤ, length, ◌≤ℤ◌, ◌<ℤ◌, Result, Ok, Err}
 use Rattle.std.proofs.Common.{ap, subst, ◌∙◌, inl, inr, ⊎_elim}
 use Rattle.whole.specs.Kind.{rows_from}
 use Rattle.whole.specs.Order.{zz, nlt_in}
@@ -18,7 +18,7 @@ use Rattle.segm.specs.BalanceLaws.{Uneven, uneven?}
 use Rattle.faults.specs.Faults.{some, is_off, is_point, has_least}
 use Rattle.outlines.specs.Open.{is_open}
 use Rattle.checks.specs.declared.Fault.{Fault}
-use Rattle.checks.specs.declared.Fault.TheVariants.{Sound, Short, BadSettings, OffGrid, NoLength, BadCount, Open}
+use Rattle.checks.specs.declared.Fault.TheVariants.{Short, BadSettings, OffGrid, NoLength, BadCount, Open}
 use Rattle.checks.specs.declared.Settings.{Settings}
 use Rattle.checks.specs.Checks.{is_short, is_bad, fault_of, check_says, check_said}
 
@@ -60,23 +60,23 @@ OpenOutline L = (d : Side) × Uneven (count d) L
 
 -- ---- the order
 
--- the first of six sentences that holds, by its fault
-abbrev pub First : Type 0 → Type 0 → Type 0 → Type 0 → Type 0 → Type 0 → Fault → Type 0
-First one two three four five six Short = one
-First one two three four five six BadSettings = (¬ one) × two
-First one two three four five six OffGrid = (¬ one) × (¬ two) × three
-First one two three four five six NoLength = (¬ one) × (¬ two) × (¬ three) × four
-First one two three four five six BadCount = (¬ one) × (¬ two) × (¬ three) × (¬ four) × five
-First one two three four five six Open = (¬ one) × (¬ two) × (¬ three) × (¬ four) × (¬ five) × six
-First one two three four five six Sound = (¬ one) × (¬ two) × (¬ three) × (¬ four) × (¬ five) × (¬ six)
+-- the first of six sentences that holds, by its fault; or that none does
+abbrev pub First : Type 0 → Type 0 → Type 0 → Type 0 → Type 0 → Type 0 → Result (Unit {0}) Fault → Type 0
+First one two three four five six (Err Short) = one
+First one two three four five six (Err BadSettings) = (¬ one) × two
+First one two three four five six (Err OffGrid) = (¬ one) × (¬ two) × three
+First one two three four five six (Err NoLength) = (¬ one) × (¬ two) × (¬ three) × four
+First one two three four five six (Err BadCount) = (¬ one) × (¬ two) × (¬ three) × (¬ four) × five
+First one two three four five six (Err Open) = (¬ one) × (¬ two) × (¬ three) × (¬ four) × (¬ five) × six
+First one two three four five six (Ok tt) = (¬ one) × (¬ two) × (¬ three) × (¬ four) × (¬ five) × (¬ six)
 
-abbrev pub Given : List ℤ → Settings → ℕ → ℕ → Fault → Type 0
+abbrev pub Given : List ℤ → Settings → ℕ → ℕ → Result (Unit {0}) Fault → Type 0
 Given input s work masks =
     let L = rows_from segments input 0 s.n in
     First (TooShort s.n (length input) work masks) (OutOfRange s) (Has CoordinateOutside L) (Has SameEnds L) (Has CountLeast L) (OpenOutline L)
 
-abbrev chosen : Bool → Bool → Bool → Bool → Bool → Bool → Fault
-chosen a b c d e f = cond a Short (cond b BadSettings (cond c OffGrid (cond d NoLength (cond e BadCount (cond f Open Sound)))))
+abbrev chosen : Bool → Bool → Bool → Bool → Bool → Bool → Result (Unit {0}) Fault
+chosen a b c d e f = cond a (Err Short) (cond b (Err BadSettings) (cond c (Err OffGrid) (cond d (Err NoLength) (cond e (Err BadCount) (cond f (Err Open) (Ok tt))))))
 
 module _ {A B C D E F : Type 0} where
   is_first : {a b c d e f : Bool} → Decides A a → Decides B b → Decides C c → Decides D d → Decides E e → Decides F f → First A B C D E F (chosen a b c d e f)
@@ -88,14 +88,14 @@ module _ {A B C D E F : Type 0} where
   is_first (no g) (no h) (no i) (no j) (no k) (yes p) = (g, h, i, j, k, p)
   is_first (no g) (no h) (no i) (no j) (no k) (no l) = (g, h, i, j, k, l)
 
-  only-first : {a b c d e f : Bool} → Decides A a → Decides B b → Decides C c → Decides D d → Decides E e → Decides F f → (r : Fault) → First A B C D E F r → chosen a b c d e f ≡ r
-  only-first s t u v w x Short p = rw (holds s p)
-  only-first s t u v w x BadSettings (g, p) = rw (fails s g, holds t p)
-  only-first s t u v w x OffGrid (g, h, p) = rw (fails s g, fails t h, holds u p)
-  only-first s t u v w x NoLength (g, h, i, p) = rw (fails s g, fails t h, fails u i, holds v p)
-  only-first s t u v w x BadCount (g, h, i, j, p) = rw (fails s g, fails t h, fails u i, fails v j, holds w p)
-  only-first s t u v w x Open (g, h, i, j, k, p) = rw (fails s g, fails t h, fails u i, fails v j, fails w k, holds x p)
-  only-first s t u v w x Sound (g, h, i, j, k, l) = rw (fails s g, fails t h, fails u i, fails v j, fails w k, fails x l)
+  only-first : {a b c d e f : Bool} → Decides A a → Decides B b → Decides C c → Decides D d → Decides E e → Decides F f → (r : Result (Unit {0}) Fault) → First A B C D E F r → chosen a b c d e f ≡ r
+  only-first s t u v w x (Err Short) p = rw (holds s p)
+  only-first s t u v w x (Err BadSettings) (g, p) = rw (fails s g, holds t p)
+  only-first s t u v w x (Err OffGrid) (g, h, p) = rw (fails s g, fails t h, holds u p)
+  only-first s t u v w x (Err NoLength) (g, h, i, p) = rw (fails s g, fails t h, fails u i, holds v p)
+  only-first s t u v w x (Err BadCount) (g, h, i, j, p) = rw (fails s g, fails t h, fails u i, fails v j, holds w p)
+  only-first s t u v w x (Err Open) (g, h, i, j, k, p) = rw (fails s g, fails t h, fails u i, fails v j, fails w k, holds x p)
+  only-first s t u v w x (Ok tt) (g, h, i, j, k, l) = rw (fails s g, fails t h, fails u i, fails v j, fails w k, fails x l)
 
 -- ---- each test decides its sentence
 
@@ -165,7 +165,7 @@ unfolding closed
 open? L = some_side {P = λ d. Uneven (count d) L} (not_and (balanced (count subject) L) (balanced (count clip) L) (uneven? (count subject) L) (uneven? (count clip) L))
 
 -- THE THEOREM
-pub exactly : (input : List ℤ) (s : Settings) (work masks : ℕ) (f : Fault) → (fault_of input s work masks ≡ f) ↔ Given input s work masks f
+pub exactly : (input : List ℤ) (s : Settings) (work masks : ℕ) (f : Result (Unit {0}) Fault) → (fault_of input s work masks ≡ f) ↔ Given input s work masks f
 unfolding fault_of
 exactly input s work masks f =
     let L = rows_from segments input 0 s.n in
@@ -176,7 +176,7 @@ exactly input s work masks f =
 
 -- ---- in numbers
 
-pub also-said : (input : List ℤ) (s : Settings) (work masks : ℕ) {r : Fault} → r ≡ fault_of input s work masks → (r ≡ fault_of input s work masks) × (check_says r ≡ check_said input s work masks)
+pub also-said : (input : List ℤ) (s : Settings) (work masks : ℕ) {r : Result (Unit {0}) Fault} → r ≡ fault_of input s work masks → (r ≡ fault_of input s work masks) × (check_says r ≡ check_said input s work masks)
 unfolding fault_of check_said
 also-said input s work masks e =
     let L = rows_from segments input 0 s.n in

@@ -1,5 +1,5 @@
 -- What answer 0 says of the outcome of a run: the checks 1 to 6 passed, the looks settled, and the work and mask lists begin with the edges and their bytes.
-use Rattle.std.specs.Prelude.{◌≡◌, Bool, cond, List, map, ◌≢◌, ℤ, eqb, ltb}
+use Rattle.std.specs.Prelude.{◌≡◌, Bool, cond, List, map, ◌≢◌, ℤ, eqb, ltb, Result, Ok, Err}
 use Rattle.std.proofs.Math.Path.{refl, sym, ap, ap₂}
 use Rattle.std.proofs.Common.{◌∙◌, subst, arith}
 use Rattle.std.proofs.Math.Bool.{true, false}
@@ -17,7 +17,7 @@ use Rattle.split.specs.Look.{look, tidy}
 use Rattle.scan.specs.Masks.{byte_of, bytes, crowded}
 use Rattle.checks.specs.declared.Settings.{Settings}
 use Rattle.checks.specs.declared.Fault.{Fault}
-use Rattle.checks.specs.declared.Fault.TheVariants.{Sound, Short, BadSettings, OffGrid, NoLength, BadCount, Open}
+use Rattle.checks.specs.declared.Fault.TheVariants.{Short, BadSettings, OffGrid, NoLength, BadCount, Open}
 use Rattle.checks.specs.Checks.{fault_of}
 use Rattle.checks.specs.Accepted.{Accepted, accepted}
 use Rattle.overlay.specs.declared.answer.Answer.{Answer}
@@ -112,17 +112,17 @@ module _ (input : List ℤ) (s : Settings) (l : Lent) (m looks : ℕ) where
         bytes = bytes-given o w ∙ ap (bytes s.fill s.rule) (sym e);
       }
 
-  unless-sound : (f : Fault) → fault_of input s (length l.work) (length l.masks) ≡ f → (unless f l (swept s l result)).answer ≡ answer0 m looks
+  unless-sound : (f : Result (Unit {0}) Fault) → fault_of input s (length l.work) (length l.masks) ≡ f → (unless f l (swept s l result)).answer ≡ answer0 m looks
       → Answered input s l (unless f l (swept s l result)) m looks
   unfolding unless
-  unless-sound Sound p e =
+  unless-sound (Ok tt) p e =
       given_by (swept s l result) (accepted input s (length l.work) (length l.masks) p) (swept-settled s l m looks (ran_proper _ _ s.budget (given input s)) e)
-  unless-sound Short p e = absurd (let z = ap (λ t. t.number) e in omega arith)
-  unless-sound BadSettings p e = absurd (let z = ap (λ t. t.number) e in omega arith)
-  unless-sound OffGrid p e = absurd (let z = ap (λ t. t.number) e in omega arith)
-  unless-sound NoLength p e = absurd (let z = ap (λ t. t.number) e in omega arith)
-  unless-sound BadCount p e = absurd (let z = ap (λ t. t.number) e in omega arith)
-  unless-sound Open p e = absurd (let z = ap (λ t. t.number) e in omega arith)
+  unless-sound (Err Short) p e = absurd (let z = ap (λ t. t.number) e in omega arith)
+  unless-sound (Err BadSettings) p e = absurd (let z = ap (λ t. t.number) e in omega arith)
+  unless-sound (Err OffGrid) p e = absurd (let z = ap (λ t. t.number) e in omega arith)
+  unless-sound (Err NoLength) p e = absurd (let z = ap (λ t. t.number) e in omega arith)
+  unless-sound (Err BadCount) p e = absurd (let z = ap (λ t. t.number) e in omega arith)
+  unless-sound (Err Open) p e = absurd (let z = ap (λ t. t.number) e in omega arith)
 
   -- THE THEOREM
   pub answered : (outcome input s l).answer ≡ answer0 m looks → Answered input s l (outcome input s l) m looks

@@ -1,6 +1,6 @@
 -- Which number a run answers: document 01's table ("Input and answer"). 1 to 6 in their order; 7 to 11 as the run meets them. `exactly` says of every number that it is
 -- answered exactly when no sentence tested before its own holds and its own does.
-use Rattle.std.specs.Prelude.{◌≡◌, Bool, true, false, cond, List, [], map, ◌↔◌, ◌≢◌, ◌⊎◌, eqb, ℤ, length}
+use Rattle.std.specs.Prelude.{◌≡◌, Bool, true, false, cond, List, [], map, ◌↔◌, ◌≢◌, ◌⊎◌, eqb, ℤ, length, Result, Ok, Err}
 use Rattle.std.proofs.Math.Path.{refl, ap}
 use Rattle.std.proofs.Common.{sym, ◌∙◌, subst, inl, inr, ⊎_elim, arith}
 use Prim.Native.Nat.{ℕ, zero, suc, ◌-◌}
@@ -15,7 +15,7 @@ use Rattle.segm.specs.Forward.{forward, sorted}
 use Rattle.split.specs.Look.{look}
 use Rattle.checks.specs.declared.Settings.{Settings}
 use Rattle.checks.specs.declared.Fault.{Fault}
-use Rattle.checks.specs.declared.Fault.TheVariants.{Sound, Short, BadSettings, OffGrid, NoLength, BadCount, Open}
+use Rattle.checks.specs.declared.Fault.TheVariants.{Short, BadSettings, OffGrid, NoLength, BadCount, Open}
 use Rattle.checks.specs.Checks.{check_says, fault_of}
 use Rattle.checks.specs.Exactly.{exactly as exactly-fault}
 use Rattle.overlay.specs.declared.answer.Answer.TheVariants.{ScanFull}
@@ -124,39 +124,33 @@ module _ (marks work : ℕ) where
 
 -- ---- the outcome
 module _ (input : List ℤ) (s : Settings) (l : Lent) where
-  fault-number : (f : Fault) (r : Outcome) → check_says f ≢ 0 → (unless f l r).answer.number ≡ check_says f
+  fault-number : (f : Fault) (r : Outcome) → (unless (Err f) l r).answer.number ≡ check_says (Err f)
   unfolding unless
-  fault-number Sound r n = absurd (n refl)
-  fault-number Short r n = refl
-  fault-number BadSettings r n = refl
-  fault-number OffGrid r n = refl
-  fault-number NoLength r n = refl
-  fault-number BadCount r n = refl
-  fault-number Open r n = refl
+  fault-number Short r = refl
+  fault-number BadSettings r = refl
+  fault-number OffGrid r = refl
+  fault-number NoLength r = refl
+  fault-number BadCount r = refl
+  fault-number Open r = refl
 
-  fault_is : (f : Fault) → Checked input s l f → fault_of input s (length l.work) (length l.masks) ≡ f
+  fault_is : (f : Result (Unit {0}) Fault) → Checked input s l f → fault_of input s (length l.work) (length l.masks) ≡ f
   fault_is f = (exactly-fault input s (length l.work) (length l.masks) f).1
 
   answered : {k : ℕ} → Answers input s l k → (outcome input s l).answer.number ≡ k
   unfolding outcome unless ran joined swept
-  answered (by_check f n g) = rw (fault_is f g) (fault-number f _ n)
-  answered (by_first_9 g t) = rw (fault_is Sound g, holds (total_leaves? (sorted (map forward (L₀ input s l)))) t)
-  answered (by_look g t c m) = rw (fault_is Sound g, fails (total_leaves? (sorted (map forward (L₀ input s l)))) t) (met_number _ _ s l c m 0)
+  answered (by_check f g) = rw (fault_is (Err f) g) (fault-number f _)
+  answered (by_first_9 g t) = rw (fault_is (Ok tt) g, holds (total_leaves? (sorted (map forward (L₀ input s l)))) t)
+  answered (by_look g t c m) = rw (fault_is (Ok tt) g, fails (total_leaves? (sorted (map forward (L₀ input s l)))) t) (met_number _ _ s l c m 0)
 
-  some-answer : (f : Fault) → Checked input s l f → (k : ℕ) × Answers input s l k
-  some-answer Sound g = go (total_leaves? (sorted (map forward (L₀ input s l))))
+  some-answer : (f : Result (Unit {0}) Fault) → Checked input s l f → (k : ℕ) × Answers input s l k
+  some-answer (Ok tt) g = go (total_leaves? (sorted (map forward (L₀ input s l))))
     where
       go : {b : Bool} → Decides (TotalLeaves (sorted (map forward (L₀ input s l)))) b → (k : ℕ) × Answers input s l k
       go (yes t) = (9, by_first_9 g t)
       go (no t) =
           let e = looks-end (mark_room (length l.marks)) (work_room (length l.work)) (scan_room (length l.scan)) (s.budget - 1) (start (L₀ input s l)) in
           (e.number, by_look g t e.comes e.met)
-  some-answer Short g = (1, by_check Short (λ e. omega arith) g)
-  some-answer BadSettings g = (2, by_check BadSettings (λ e. omega arith) g)
-  some-answer OffGrid g = (3, by_check OffGrid (λ e. omega arith) g)
-  some-answer NoLength g = (4, by_check NoLength (λ e. omega arith) g)
-  some-answer BadCount g = (5, by_check BadCount (λ e. omega arith) g)
-  some-answer Open g = (6, by_check Open (λ e. omega arith) g)
+  some-answer (Err f) g = (check_says (Err f), by_check f g)
 
   -- THE THEOREM
   pub exactly : (k : ℕ) → ((outcome input s l).answer.number ≡ k) ↔ Answers input s l k

@@ -1,6 +1,6 @@
 -- Which number a run answers: document 01's table ("Input and answer"). 1 to 6 in their order; 7 to 11 as the run meets them. `exactly` says of every number that it is
 -- answered exactly when no sentence tested before its own holds and its own does.
-use Rattle.std.specs.Prelude.{◌≡◌, List, map, ◌≢◌, ℤ, length}
+use Rattle.std.specs.Prelude.{◌≡◌, List, map, ◌≢◌, ℤ, length, Result, Ok, Err}
 use Prim.Native.Nat.{ℕ, suc, ◌-◌}
 use Rattle.whole.specs.Kind.{rows_from}
 use Rattle.geom.specs.declared.Segment.{Segment}
@@ -9,7 +9,6 @@ use Rattle.geom.specs.Rows.{segments}
 use Rattle.segm.specs.Forward.{forward, sorted}
 use Rattle.checks.specs.declared.Settings.{Settings}
 use Rattle.checks.specs.declared.Fault.{Fault}
-use Rattle.checks.specs.declared.Fault.TheVariants.{Sound}
 use Rattle.checks.specs.Checks.{check_says}
 use Rattle.checks.specs.Exactly.{Given}
 use Rattle.overlay.specs.Outcome.{Lent}
@@ -43,8 +42,8 @@ module _ (input : List ℤ) (s : Settings) (l : Lent) where
   abbrev L₀ : List Segment
   L₀ = rows_from segments input 0 s.n
 
-  -- the first of the sentences 1 to 6 that holds is that of f, or none holds and f is `Sound`
-  abbrev pub Checked : Fault → Type 0
+  -- the first of the sentences 1 to 6 that holds is that of an `Err`, or none holds and it is `Ok`
+  abbrev pub Checked : Result (Unit {0}) Fault → Type 0
   Checked = Given input s (length l.work) (length l.masks)
 
   -- the run looks at K, with so many allowed after it
@@ -52,9 +51,9 @@ module _ (input : List ℤ) (s : Settings) (l : Lent) where
   LooksAt = Comes (mark_room (length l.marks)) (work_room (length l.work)) (s.budget - 1) (start L₀)
 
   pub data Answers : ℕ → Type 0 where
-    by_check : (f : Fault) → check_says f ≢ 0 → Checked f → Answers (check_says f)
-    by_first_9 : Checked Sound → TotalLeaves (sorted (map forward L₀)) → Answers 9
-    by_look : {k left : ℕ} {K : List Segment} → Checked Sound → ¬ TotalLeaves (sorted (map forward L₀)) → LooksAt left K
+    by_check : (f : Fault) → Checked (Err f) → Answers (check_says (Err f))
+    by_first_9 : Checked (Ok tt) → TotalLeaves (sorted (map forward L₀)) → Answers 9
+    by_look : {k left : ℕ} {K : List Segment} → Checked (Ok tt) → ¬ TotalLeaves (sorted (map forward L₀)) → LooksAt left K
         → Met (mark_room (length l.marks)) (work_room (length l.work)) (scan_room (length l.scan)) left K k → Answers k
 
 -- ---- one look

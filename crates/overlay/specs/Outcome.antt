@@ -1,5 +1,5 @@
 -- The whole outcome of a run: the number of the answer, m and looks, and what every lent list then holds ("Input and answer").
-use Rattle.std.specs.Prelude.{cond, List, ◌++◌, ℕ, ℤ, pos, length, drop, replicate}
+use Rattle.std.specs.Prelude.{cond, List, ◌++◌, ℕ, ℤ, pos, length, drop, replicate, Result, Ok, Err}
 use Rattle.whole.specs.Kind.{rows_from, front}
 use Rattle.geom.specs.declared.Segment.{Segment}
 use Rattle.geom.specs.Limits.{work_room, mark_room, scan_room}
@@ -58,14 +58,14 @@ swept s l (refused a) = cleared l a
 swept s l (settled L looks) = let r = finished s l L looks in cond (crowded (scan_room (length l.scan)) L) (cleared l ScanFull) r
 
 -- a fault of the input, or else what the run comes to
-unfoldable pub unless : Fault → Lent → Outcome → Outcome
-unless fault.Sound l r = r
-unless fault.Short l r = unchanged l Short
-unless fault.BadSettings l r = unchanged l BadSettings
-unless fault.OffGrid l r = unchanged l OffGrid
-unless fault.NoLength l r = unchanged l NoLength
-unless fault.BadCount l r = unchanged l BadCount
-unless fault.Open l r = unchanged l Open
+unfoldable pub unless : Result (Unit {0}) Fault → Lent → Outcome → Outcome
+unless (Ok tt) l r = r
+unless (Err fault.Short) l r = unchanged l Short
+unless (Err fault.BadSettings) l r = unchanged l BadSettings
+unless (Err fault.OffGrid) l r = unchanged l OffGrid
+unless (Err fault.NoLength) l r = unchanged l NoLength
+unless (Err fault.BadCount) l r = unchanged l BadCount
+unless (Err fault.Open) l r = unchanged l Open
 
 -- 1 to 6 in order, then the run
 unfoldable pub outcome : List ℤ → Settings → Lent → Outcome

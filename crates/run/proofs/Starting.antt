@@ -19,8 +19,8 @@ use Rattle.segm.specs.Merge.{merged}
 use Rattle.checks.specs.declared.Settings.{Settings}
 use Rattle.faults.specs.Faults.{some, has_least}
 use Rattle.checks.specs.Accepted.{Accepted}
-use Rattle.steps.specs.declared.Joined.{Joined}
-use Rattle.steps.specs.declared.Joined.TheVariants.{Rows, TooBig}
+use Rattle.std.specs.Prelude.{Result, Ok, Err}
+use Rattle.steps.specs.declared.TooBig.{TooBig}
 use Rattle.steps.specs.Joining.{join_answer, join_list}
 use Rattle.overlay.specs.declared.answer.Answer.TheVariants.{TooBig as Big}
 use Rattle.overlay.specs.Looks.{Ran, settled, refused, joined, ran}
@@ -62,11 +62,11 @@ module _ (input : List ℤ) (s : Settings) (work masks : ℕ) (yes : Accepted in
     pub begun_room : (s.n ≤ 2048) × (6 * s.n ≤ length w)
     begun_room = (yes.roomy.limited, omega (arith, begun_size, yes.roomy.room))
 
-    pub joins : {r : Joined} {k : ℕ} {zs : List ℤ} → r ≡ join_answer (rows_from segments w 0 s.n) → r ≡ Rows k → zs ≡ join_list w (rows_from segments w 0 s.n) → Merges (map forward L) (length w) zs k
+    pub joins : {r : Result ℕ TooBig} {k : ℕ} {zs : List ℤ} → r ≡ join_answer (rows_from segments w 0 s.n) → r ≡ Ok k → zs ≡ join_list w (rows_from segments w 0 s.n) → Merges (map forward L) (length w) zs k
     joins = is_joined w s.n begun_rows (rw begun_size yes.roomy.room) (turned-good yes.grid yes.long)
 
     module _ (marks : ℕ) where
-      pub refuses_9 : {r : Joined} → r ≡ join_answer (rows_from segments w 0 s.n) → r ≡ TooBig → ran marks (work_room work) s.budget L ≡ refused Big
+      pub refuses_9 : {r : Result ℕ TooBig} {e : TooBig} → r ≡ join_answer (rows_from segments w 0 s.n) → r ≡ Err e → ran marks (work_room work) s.budget L ≡ refused Big
       unfolding ran joined
       refuses_9 e h = rw (is_big w s.n begun_rows e h)
 

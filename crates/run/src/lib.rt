@@ -1,11 +1,10 @@
 #![tactic(auto)]
 // The run: the input is checked, turned, sorted and merged, looked at and split until it is settled, then swept (core/).
-ghost use Rattle.std.specs.Prelude.{◌≡◌, length};
+ghost use Rattle.std.specs.Prelude.{◌≡◌, Ok, length};
 ghost use Rattle.whole.specs.Kind.{rows_from};
 ghost use Rattle.geom.specs.Limits.{work_room, mark_room};
 ghost use Rattle.geom.specs.Rows.{segments};
 ghost use Rattle.overlay.specs.Looks.{ran};
-ghost use Rattle.checks.specs.declared.Fault.TheVariants.{Sound};
 ghost use Rattle.checks.specs.Checks.{fault_of};
 ghost use Rattle.checks.specs.Accepted.{Accepted};
 ghost use Rattle.overlay.specs.Outcome.{swept, outcome};
@@ -28,13 +27,13 @@ pub fn overlay(
     ensures { ended result work.new marks.new scan.new masks.new ≡ outcome input.now settings (lent work.old marks.old scan.old masks.old) }
 {
     match checks::check(input, settings, work.len(), masks.len()) {
-        Fault::Sound => run(input, settings, work, marks, scan, masks),
-        Fault::Short => Answer::Short,
-        Fault::BadSettings => Answer::BadSettings,
-        Fault::OffGrid => Answer::OffGrid,
-        Fault::NoLength => Answer::NoLength,
-        Fault::BadCount => Answer::BadCount,
-        Fault::Open => Answer::Open,
+        Ok(()) => run(input, settings, work, marks, scan, masks),
+        Err(Fault::Short) => Answer::Short,
+        Err(Fault::BadSettings) => Answer::BadSettings,
+        Err(Fault::OffGrid) => Answer::OffGrid,
+        Err(Fault::NoLength) => Answer::NoLength,
+        Err(Fault::BadCount) => Answer::BadCount,
+        Err(Fault::Open) => Answer::Open,
     }
 }
 
@@ -47,7 +46,7 @@ fn run(
     scan: &mut [i64],
     masks: &mut [u8],
 ) -> Answer
-    requires { fault_of input.now settings (length work.old) (length masks.old) ≡ Sound }
+    requires { fault_of input.now settings (length work.old) (length masks.old) ≡ Ok tt }
     ensures { ended result work.new marks.new scan.new masks.new ≡ swept settings (lent work.old marks.old scan.old masks.old) (ran (mark_room (length marks.old)) (work_room (length work.old)) settings.budget (rows_from segments input.now 0 settings.n)) }
 {
     match until_settled(input, settings, work, marks) {
@@ -66,7 +65,7 @@ fn until_settled(input: &[i32], settings: Settings, work: &mut [i32], marks: &mu
     let n = settings.n;
     let budget = settings.budget as usize;
     steps::begin(input, n, work);
-    let steps::Joined::Rows(m) = steps::join(work, n) else {
+    let Ok(m) = steps::join(work, n) else {
         return Step::Refused(Answer::TooBig);
     };
     settle::looks(work, m, marks, budget)

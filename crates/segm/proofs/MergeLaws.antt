@@ -1,7 +1,7 @@
 -- When merging answers which number (`enough`, `also-said`), and what it gives, from what the groups of equal neighbours have: merged L is some of `groups L` in their order. So its ends are ends of L
 -- (`merged-ends`), it is no longer (`merged-length`), its counts are within ±(2^31 - 1) unless 9 is answered (`merged-near`), and of a list that stands by
 -- its ends no two are left with the same ends (`merged-strict`).
-use Rattle.std.specs.Prelude.{◌≡◌, Bool, not, List, [], ◌∷◌, ℕ, suc, ◌*◌, ◌≤◌, ◌<◌, ℤ, pos, negsuc, nat_abs, length, ltb}
+use Rattle.std.specs.Prelude.{◌≡◌, Bool, not, List, [], ◌∷◌, ℕ, suc, ◌*◌, ◌≤◌, ◌<◌, ℤ, pos, negsuc, nat_abs, length, ltb, Result, Ok, Err}
 use Rattle.std.proofs.Math.Path.{refl}
 use Rattle.std.proofs.Common.{ap, ◌∙◌, arith}
 use Rattle.std.proofs.Math.Bool.{true, false, cond}
@@ -22,7 +22,8 @@ use Rattle.whole.specs.Kind.{rows_from}
 use Rattle.geom.specs.Limits.{segment_limit}
 use Rattle.geom.specs.Rows.{segments}
 use Rattle.segm.specs.declared.Merged.{Merged}
-use Rattle.segm.specs.declared.Merged.TheVariants.{Joined, Same, Short, TooBig}
+use Rattle.segm.specs.declared.MergeError.{MergeError}
+use Rattle.segm.specs.declared.MergeError.TheVariants.{Short, TooBig}
 use Rattle.segm.specs.Forward.{sorted}
 use Rattle.groups.specs.Group.{is_empty, is_far}
 use Rattle.segm.specs.Merge.{same_ends, plus, groups_from, groups, merged_from, merged, paired, any_far, too_big, too_short, merge_answer, only, merge_says, merge_said}
@@ -48,15 +49,14 @@ module _ (xs : List ℤ) (n : ℕ) where
   enough h k = rw (le-ltb segment_limit n h, le-ltb (length xs) (6 * n) k)
 
   -- an answer is that number and those values
-  pub also-said : {P : Type 0} {r : Merged} → (r ≡ merge_answer xs n) × P → (r ≡ merge_answer xs n) × ((merge_says r ≡ merge_said xs n) × P)
+  pub also-said : {P : Type 0} {r : Result Merged MergeError} → (r ≡ merge_answer xs n) × P → (r ≡ merge_answer xs n) × ((merge_says r ≡ merge_said xs n) × P)
   unfolding merge_answer merge_said
   also-said e = let L = rows_from segments xs 0 n in (e.0, (ap merge_says e.0 ∙ by_tests (too_short xs n) (too_big L) (paired L) (length (merged L)), e.1))
     where
-      by_tests : (s t p : Bool) (k : ℕ) → merge_says (cond s Short (cond t TooBig (cond p (Joined k) (Same k)))) ≡ cond s (only 1) (cond t (only 9) (record { answer = 0; joined = p; segments = k }))
+      by_tests : (s t p : Bool) (k : ℕ) → merge_says (cond s (Err Short) (cond t (Err TooBig) (Ok (record { left = k; joined = p })))) ≡ cond s (only 1) (cond t (only 9) (record { answer = 0; joined = p; segments = k }))
       by_tests true t p k = refl
       by_tests false true p k = refl
-      by_tests false false true k = refl
-      by_tests false false false k = refl
+      by_tests false false p k = refl
 
 -- ---- some of the groups, in their order
 

@@ -9,6 +9,7 @@ use native.Mathlib.Omega.{arith}
 use lib.IntN.{ℤ, pos, nat_abs}
 use lib.ListN.{length, replicate}
 use lib.Seq.{sets}
+use Rattle.std.specs.Prelude.{Result, Ok, Err}
 use mir.Syntax.{w32}
 use mir.Val.{SFits}
 use Rattle.whole.specs.Fit.{fits-abs}
@@ -21,7 +22,8 @@ use Rattle.geom.specs.declared.Segment.{Segment}
 use Rattle.geom.specs.Rows.{segments}
 use Rattle.groups.specs.declared.Group.{Group}
 use Rattle.segm.specs.declared.Merged.{Merged}
-use Rattle.segm.specs.declared.Merged.TheVariants.{Joined, Same, TooBig}
+use Rattle.segm.specs.declared.MergeError.{MergeError}
+use Rattle.segm.specs.declared.MergeError.TheVariants.{TooBig}
 use Rattle.groups.specs.Group.{is_far, joint, alone, with_one, far_group, is_dropped, left}
 use Rattle.segm.specs.Merge.{same_ends, groups, merged, paired, too_big, answer_of, list_of}
 use Rattle.segm.proofs.MergeLaws.{not_far}
@@ -45,7 +47,7 @@ abbrev rest : List ℤ → ℕ → ℕ → List Segment
 rest xs n i = rows_from segments xs i (n - i)
 
 -- the promise
-abbrev Ends : List ℤ → ℕ → Merged → List ℤ → Type 0
+abbrev Ends : List ℤ → ℕ → Result Merged MergeError → List ℤ → Type 0
 Ends xs n r ys = (r ≡ answer_of (whole xs n)) × (ys ≡ list_of xs (whole xs n))
 
 -- w rows of s are written, and the group g has the last of the i rows met
@@ -127,7 +129,7 @@ module _ {xs : List ℤ} {n : ℕ} {s : List ℤ} {w i : ℕ} {g : Group} (r : R
           }
 
   -- ---- the end
-  pub too_big_lem : too_big (whole xs n) ≡ true → {ys : List ℤ} → ys ≡ replicate (length s) (pos 0) → Ends xs n TooBig ys
+  pub too_big_lem : too_big (whole xs n) ≡ true → {ys : List ℤ} → ys ≡ replicate (length s) (pos 0) → Ends xs n (Err TooBig) ys
   too_big_lem b y = (rw b, y ∙ rw (b, r.going.kept))
 
   module _ (h : n ≤ i) where
@@ -149,7 +151,7 @@ module _ {xs : List ℤ} {n : ℕ} {s : List ℤ} {w i : ℕ} {g : Group} (r : R
       last false d c y =
           rw c (done_put segments merging r.going (joint g) h (rw d) (omega (arith, r.behind, r.within)) f y)
 
-      pub run_end : far_group g ≡ false → {k : ℕ} → k ≡ w + length (left g) → {ys : List ℤ} → ys ≡ sets s (6 * w) (flat segments (left g)) → Ends xs n (cond g.met (Joined k) (Same k)) ys
+      pub run_end : far_group g ≡ false → {k : ℕ} → k ≡ w + length (left g) → {ys : List ℤ} → ys ≡ sets s (6 * w) (flat segments (left g)) → Ends xs n (Ok (record { left = k; joined = g.met })) ys
       unfolding left
       run_end b c y =
           let x = last (is_dropped g) refl c y in

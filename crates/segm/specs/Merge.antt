@@ -1,5 +1,5 @@
 -- Merging ("Merge", and refusal 9): equal neighbours become one, with summed counts.
-use Rattle.std.specs.Prelude.{Bool, true, false, not, cond, ◌&&◌, ◌||◌, List, [], ◌∷◌, ℕ, ◌*◌, ltb, ℤ, pos, ◌+ℤ◌, length, replicate}
+use Rattle.std.specs.Prelude.{Bool, false, not, cond, ◌&&◌, ◌||◌, List, [], ◌∷◌, ℕ, ◌*◌, ltb, ℤ, pos, ◌+ℤ◌, length, replicate, Result, Ok, Err}
 use Rattle.whole.specs.Kind.{rows_from, front}
 use Rattle.whole.specs.Sum.{keep}
 use Rattle.geom.specs.declared.Segment.{Segment}
@@ -8,7 +8,8 @@ use Rattle.geom.specs.Plane.{same_point, segment}
 use Rattle.geom.specs.Rows.{segments}
 use Rattle.groups.specs.Group.{is_empty, is_far}
 use Rattle.segm.specs.declared.Merged.{Merged}
-use Rattle.segm.specs.declared.Merged.TheVariants.{Joined, Same, Short, TooBig}
+use Rattle.segm.specs.declared.MergeError.{MergeError}
+use Rattle.segm.specs.declared.MergeError.TheVariants.{Short, TooBig}
 
 -- equal: the same ends
 unfoldable pub same_ends : Segment → Segment → Bool
@@ -58,16 +59,16 @@ too_big L = any_far (groups L)
 unfoldable pub too_short : List ℤ → ℕ → Bool
 too_short xs n = ltb segment_limit n || ltb (length xs) (6 * n)
 
--- true (Joined) exactly if there are equal neighbours, and how many segments are left
-abbrev pub answer_of : List Segment → Merged
-answer_of L = cond (too_big L) TooBig (cond (paired L) (Joined (length (merged L))) (Same (length (merged L))))
+-- how many segments are left, and true (joined) exactly if there are equal neighbours
+abbrev pub answer_of : List Segment → Result Merged MergeError
+answer_of L = cond (too_big L) (Err TooBig) (Ok (record { left = length (merged L); joined = paired L }))
 
 -- the merged rows at the front and all else as it was; wholly zero after 9
 abbrev pub list_of : List ℤ → List Segment → List ℤ
 list_of xs L = cond (too_big L) (replicate (length xs) (pos 0)) (front segments xs (merged L))
 
-unfoldable pub merge_answer : List ℤ → ℕ → Merged
-merge_answer xs n = cond (too_short xs n) Short (answer_of (rows_from segments xs 0 n))
+unfoldable pub merge_answer : List ℤ → ℕ → Result Merged MergeError
+merge_answer xs n = cond (too_short xs n) (Err Short) (answer_of (rows_from segments xs 0 n))
 
 unfoldable pub merge_list : List ℤ → ℕ → List ℤ
 merge_list xs n = cond (too_short xs n) xs (list_of xs (rows_from segments xs 0 n))
@@ -83,11 +84,10 @@ pub record Said : Type 0 where
 abbrev pub only : ℕ → Said
 only k = record { answer = k; joined = false; segments = 0 }
 
-abbrev pub merge_says : Merged → Said
-merge_says (Joined m) = record { answer = 0; joined = true; segments = m }
-merge_says (Same m) = record { answer = 0; joined = false; segments = m }
-merge_says Short = only 1
-merge_says TooBig = only 9
+abbrev pub merge_says : Result Merged MergeError → Said
+merge_says (Ok m) = record { answer = 0; joined = m.joined; segments = m.left }
+merge_says (Err Short) = only 1
+merge_says (Err TooBig) = only 9
 
 unfoldable pub merge_said : List ℤ → ℕ → Said
 merge_said xs n =

@@ -29,8 +29,8 @@ use Rattle.apply.specs.declared.Applied.{Applied}
 use Rattle.apply.specs.declared.Applied.TheVariants.{Pieces, Full}
 use Rattle.apply.specs.Answer.{in_order, apply_answer, apply_list, outcome}
 use Rattle.apply.proofs.Back.{number-split}
-use Rattle.steps.specs.declared.Joined.{Joined}
-use Rattle.steps.specs.declared.Joined.TheVariants.{Rows, TooBig}
+use Rattle.std.specs.Prelude.{Result, Ok, Err}
+use Rattle.steps.specs.declared.TooBig.{TooBig}
 use Rattle.steps.specs.Joining.{join_answer, join_list}
 use Rattle.overlay.specs.declared.answer.Answer.TheVariants.{WorkFull, TooBig as Big}
 use Rattle.overlay.specs.Looks.{Ran, refused, radius, joined}
@@ -155,13 +155,13 @@ module _ (xs : List ℤ) (m : ℕ) (kept : Kept xs m) where
   -- ---- joining
 
   module _ {ys : List ℤ} {p : ℕ} (s : Split L ys (length xs) p) where
-    pub goes_on_lem : {r : Joined} {k : ℕ} {zs : List ℤ} → r ≡ join_answer (rows_from segments ys 0 p) → r ≡ Rows k → zs ≡ join_list ys (rows_from segments ys 0 p)
+    pub goes_on_lem : {r : Result ℕ TooBig} {k : ℕ} {zs : List ℤ} → r ≡ join_answer (rows_from segments ys 0 p) → r ≡ Ok k → zs ≡ join_list ys (rows_from segments ys 0 p)
         → ((f : List Segment → Ran) → split_at (work_room (length xs)) L f ≡ f (rows_from segments zs 0 k)) × Kept zs k
     unfolding split_at joined
     goes_on_lem e f g =
         let j = is_joined ys p s.rows (rw s.size s.room) (cut_is_good (all_map (λ v s. s.good) kept.sound)) e f g in
         (λ f. rw (s.fits, j.small, j.rows), j.kept)
 
-    pub refuses_9 : {r : Joined} → r ≡ join_answer (rows_from segments ys 0 p) → r ≡ TooBig → (f : List Segment → Ran) → split_at (work_room (length xs)) L f ≡ refused Big
+    pub refuses_9 : {r : Result ℕ TooBig} {e : TooBig} → r ≡ join_answer (rows_from segments ys 0 p) → r ≡ Err e → (f : List Segment → Ran) → split_at (work_room (length xs)) L f ≡ refused Big
     unfolding split_at joined
     refuses_9 e h f = rw (s.fits, is_big ys p s.rows e h)

@@ -16,20 +16,20 @@ use Rattle.geom.specs.Rows.{segments}
 use Rattle.segm.specs.Forward.{in_order, sorted}
 use Rattle.segm.specs.Merge.{merged, too_big}
 use Rattle.segm.proofs.MergeLaws.{merged-length}
-use Rattle.steps.specs.declared.Joined.{Joined}
-use Rattle.steps.specs.declared.Joined.TheVariants.{Rows, TooBig}
+use Rattle.std.specs.Prelude.{Result, Ok, Err}
+use Rattle.steps.specs.declared.TooBig.{TooBig}
 use Rattle.steps.specs.Joining.{join_answer, join_list}
 use Rattle.demands.specs.Pieces.{Good}
 use Rattle.settle.specs.Kept.{Kept}
 use Rattle.settle.proofs.Sound.{joined-sound}
 
-of_rows : (b : Bool) (k : ℕ) {p : ℕ} → cond b TooBig (Rows k) ≡ Rows p → (b ≡ false) × (p ≡ k)
-of_rows true k h = absurd (let z : ◌≡◌ {A = ℕ} 0 1 = cc in omega arith)
+of_rows : (b : Bool) (k : ℕ) {p : ℕ} → ◌≡◌ {A = Result ℕ TooBig} (cond b (Err (record {})) (Ok k)) (Ok p) → (b ≡ false) × (p ≡ k)
+of_rows true k h = cc
 of_rows false k h = (refl, cc)
 
-of_big : (b : Bool) (k : ℕ) → cond b TooBig (Rows k) ≡ TooBig → b ≡ true
+of_big : (b : Bool) (k : ℕ) {e : TooBig} → ◌≡◌ {A = Result ℕ TooBig} (cond b (Err (record {})) (Ok k)) (Err e) → b ≡ true
 of_big true k h = refl
-of_big false k h = absurd (let z : ◌≡◌ {A = ℕ} 0 1 = cc in omega arith)
+of_big false k h = cc
 
 -- of the rows K, in a list that then is zs and was as long as l
 pub record Merges (K : List Segment) (l : ℕ) (zs : List ℤ) (k : ℕ) : Type 0 where
@@ -39,8 +39,8 @@ pub record Merges (K : List Segment) (l : ℕ) (zs : List ℤ) (k : ℕ) : Type 
   pub kept : Kept zs k
 
 module _ {K : List Segment} (ys : List ℤ) (p : ℕ) (same : rows_from segments ys 0 p ≡ K) where
-  pub is_joined : p ≤ work_room (length ys) → All Good K → {r : Joined} {k : ℕ} {zs : List ℤ}
-      → r ≡ join_answer (rows_from segments ys 0 p) → r ≡ Rows k → zs ≡ join_list ys (rows_from segments ys 0 p) → Merges K (length ys) zs k
+  pub is_joined : p ≤ work_room (length ys) → All Good K → {r : Result ℕ TooBig} {k : ℕ} {zs : List ℤ}
+      → r ≡ join_answer (rows_from segments ys 0 p) → r ≡ Ok k → zs ≡ join_list ys (rows_from segments ys 0 p) → Merges K (length ys) zs k
   unfolding join_answer join_list
   is_joined room good {k = k} {zs = zs} e f g =
       let S = sorted K in
@@ -58,6 +58,6 @@ module _ {K : List Segment} (ys : List ℤ) (p : ℕ) (same : rows_from segments
         kept = record { room = rw size (omega (arith, h.1, room, c, merged-length S)); sound = rw rows (joined-sound good h.0) };
       }
 
-  pub is_big : {r : Joined} → r ≡ join_answer (rows_from segments ys 0 p) → r ≡ TooBig → too_big (sorted K) ≡ true
+  pub is_big : {r : Result ℕ TooBig} {e : TooBig} → r ≡ join_answer (rows_from segments ys 0 p) → r ≡ Err e → too_big (sorted K) ≡ true
   unfolding join_answer
   is_big e h = of_big (too_big (sorted K)) (length (merged (sorted K))) (sym (e ∙ rw same) ∙ h)

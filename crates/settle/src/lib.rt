@@ -80,7 +80,7 @@ fn cut(work: &mut [i32], m: usize, marks: &mut [i32], count: usize) -> Step
     let apply::Applied::Pieces(p) = apply::apply(work, m, marks, k) else {
         return Step::Refused(Answer::WorkFull);
     };
-    let steps::Joined::Rows(rows) = steps::join(work, p) else {
+    let Ok(rows) = steps::join(work, p) else {
         return Step::Refused(Answer::TooBig);
     };
     Step::Next(rows)

@@ -7,6 +7,7 @@ use native.Mathlib.Omega.{arith}
 use lib.IntN.{ℤ}
 use lib.ListN.{length}
 use lib.Signed.{lt_z}
+use Rattle.std.specs.Prelude.{Result, Ok, Err}
 use Rattle.whole.specs.Kind.{rows_from, front}
 use Rattle.whole.proofs.KindLaws.{length-rows, rows-front, length_front}
 use Rattle.whole.proofs.SortingLaws.{sort-length}
@@ -16,26 +17,23 @@ use Rattle.geom.specs.Rows.{segments}
 use Rattle.rows.specs.Sorted.{fitting, in_order as rowsInOrder}
 use Rattle.rows.proofs.SortedLaws.{fitting-true, in_order-kind}
 use Rattle.segm.specs.declared.Merged.{Merged}
-use Rattle.segm.specs.declared.Merged.TheVariants.{Joined, Same, Short, TooBig}
+use Rattle.segm.specs.declared.MergeError.{MergeError}
+use Rattle.segm.specs.declared.MergeError.TheVariants.{TooBig as Outside}
 use Rattle.segm.specs.Forward.{in_order, sorted}
 use Rattle.segm.specs.Merge.{merged, too_big, paired, merge_answer, merge_list, too_short}
 use Rattle.segm.proofs.MergeLaws.{enough}
-use Rattle.steps.specs.declared.Joined.{Joined as Join}
-use Rattle.steps.specs.declared.Joined.TheVariants.{Rows, TooBig as Big}
+use Rattle.steps.specs.declared.TooBig.{TooBig}
 use Rattle.steps.specs.Joining.{join_answer, join_list}
 
 -- what an answer of merging says of the rows
-unfoldable pub said : Merged → Join
-said (Joined m) = Rows m
-said (Same m) = Rows m
-said Short = Big
-said TooBig = Big
+unfoldable pub said : Result Merged MergeError → Result ℕ TooBig
+said (Ok m) = Ok m.left
+said (Err e) = Err (record {})
 
-said-answer : (far pair : Bool) (k : ℕ) → said (cond far TooBig (cond pair (Joined k) (Same k))) ≡ cond far Big (Rows k)
+said-answer : (far pair : Bool) (k : ℕ) → said (cond far (Err Outside) (Ok (record { left = k; joined = pair }))) ≡ cond far (Err (record {})) (Ok k)
 unfolding said
 said-answer true pair k = refl
-said-answer false true k = refl
-said-answer false false k = refl
+said-answer false pair k = refl
 
 module _ (xs : List ℤ) (n : ℕ) (few : n ≤ segment_limit) (room : 6 * n ≤ length xs) where
   abbrev K : List Segment
@@ -55,7 +53,7 @@ module _ (xs : List ℤ) (n : ℕ) (few : n ≤ segment_limit) (room : 6 * n ≤
   not_short : too_short (front segments xs (sorted K)) n ≡ false
   not_short = enough (front segments xs (sorted K)) n few (omega (arith, length_front segments xs (sorted K) (omega (arith, same_number))))
 
-  pub joined : {ys zs : List ℤ} {r : Merged} → ys ≡ front segments xs (sorted K) → r ≡ merge_answer ys n → zs ≡ merge_list ys n
+  pub joined : {ys zs : List ℤ} {r : Result Merged MergeError} → ys ≡ front segments xs (sorted K) → r ≡ merge_answer ys n → zs ≡ merge_list ys n
       → (said r ≡ join_answer K) × (zs ≡ join_list xs K)
   unfolding merge_answer merge_list join_answer join_list
   joined y e f = (

@@ -8,14 +8,9 @@ ghost use Rattle.segm.specs.Forward.{forward as forward_of};
 ghost use Rattle.faults.specs.Faults.{some, has_least};
 ghost use Rattle.steps.specs.Joining.{join_answer, join_list};
 
-use segm::Merged;
-
-// How many rows are left, or that a total is too big (9).
-#[derive(Clone, Copy)]
-pub enum Joined {
-    Rows(usize),
-    TooBig,
-}
+// A group's total leaves ±(2^31 - 1) (9).
+#[derive(Clone, Copy, Debug, PartialEq, Eq)]
+pub struct TooBig;
 
 // The n segments of the input, turned to run forward, become the first rows of `work`.
 pub fn begin(input: &[i32], n: usize, work: &mut [i32])
@@ -30,8 +25,8 @@ pub fn begin(input: &[i32], n: usize, work: &mut [i32])
     }
 }
 
-// The first n rows in order, then merged. After 9 the list is wholly zero.
-pub fn join(work: &mut [i32], n: usize) -> Joined
+// The first n rows in order, then merged: how many are left. After 9 the list is wholly zero.
+pub fn join(work: &mut [i32], n: usize) -> Result<usize, TooBig>
     requires n_le_segment_limit { n ≤ segment_limit }
     requires n_in_bounds { 6 * n ≤ length work.old }
     ensures value { result ≡ join_answer (rows_from segments work.old 0 n) }
@@ -39,10 +34,8 @@ pub fn join(work: &mut [i32], n: usize) -> Joined
 {
     rows::sort(work, n, 6);
     match segm::merge(work, n) {
-        Merged::Joined(m) => Joined::Rows(m),
-        Merged::Same(m) => Joined::Rows(m),
-        Merged::Short => Joined::TooBig,
-        Merged::TooBig => Joined::TooBig,
+        Ok(merged) => Ok(merged.left),
+        Err(_) => Err(TooBig),
     }
 }
 
@@ -51,6 +44,5 @@ pub fn clear_behind(work: &mut [i32], m: usize)
     requires { 6 * m ≤ length work.old }
     ensures { work.new ≡ front segments (replicate (length work.old) (pos 0)) (rows_from segments work.old 0 m) }
 {
-    let e = work.len();
-    lists::clear_i32(&mut work[6 * m..e]);
+    work[6 * m..].fill(0);
 }

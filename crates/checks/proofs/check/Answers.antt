@@ -6,7 +6,9 @@ use lib.ListN.{length}
 use Rattle.whole.specs.Kind.{rows_from}
 use Rattle.geom.specs.Rows.{segments}
 use Rattle.faults.specs.Faults.{some, is_off, is_point, has_least}
-use Rattle.checks.specs.declared.Fault.TheVariants.{Sound, Open}
+use Rattle.std.specs.Prelude.{Result, Ok, Err}
+use Rattle.checks.specs.declared.Fault.{Fault}
+use Rattle.checks.specs.declared.Fault.TheVariants.{Open}
 use Rattle.checks.specs.Checks.{is_short, is_bad, fault_of}
 use Rattle.checks.specs.Exactly.{also-said}
 use Rattle.checks.specs.Accepted.{Roomy, roomy_when}
@@ -34,7 +36,7 @@ room : (c : Else-short) → Roomy c.args.settings.n (length c.args.input.now) c.
 room c = roomy_when _ _ _ _ (not_short c)
 
 -- once five tests are passed, the sixth decides
-open-decides : (c : After-some_open) → let x = c.args in fault_of x.input.now x.settings x.work x.masks ≡ cond c.some_open.result Open Sound
+open-decides : (c : After-some_open) → let x = c.args in fault_of x.input.now x.settings x.work x.masks ≡ cond {A = Result (Unit {0}) Fault} c.some_open.result (Err Open) (Ok tt)
 unfolding fault_of
 open-decides c =
     rw (sym c.short.ensures ∙ c.if-short.false, sym c.bad.ensures ∙ c.if-bad.false, sym (c.some_row.ensures is_off (λ v r h. search rules)) ∙ c.if-some_row.false, sym (c.some_row-2.ensures is_point (λ v r h. search rules)) ∙ c.if-some_row-2.false, sym (c.some_row-3.ensures has_least (λ v r h. search rules)) ∙ c.if-some_row-3.false, sym c.some_open.ensures)

@@ -11,14 +11,14 @@ use Rattle.settle.specs.Step.{goes_on, StillKept, looks_allowed}
 use Rattle.settle.proofs.Joining.{Merges}
 use Rattle.run.proofs.Starting.{no_least, begun_size, begun_room, joins, refuses_9, looks-start}
 use Rattle.run.proofs.until_settled.Goals as goal
-use Rattle.run.proofs.until_settled.Goals.{In-Rows}
+use Rattle.run.proofs.until_settled.Goals.{In-Ok}
 
-first : (c : In-Rows) → Merges (map forward (rows_from segments c.args.input.now 0 c.args.settings.n)) (length c.args.work.now) c.join.new.work c.in-Rows.m
+first : (c : In-Ok) → Merges (map forward (rows_from segments c.args.input.now 0 c.args.settings.n)) (length c.args.work.now) c.join.new.work c.in-Ok.m
 first c =
     let x = c.args in
     let b = c.begin.ensures in
-    subst (λ n. Merges (map forward (rows_from segments x.input.now 0 x.settings.n)) n c.join.new.work c.in-Rows.m) (begun_size x.input.now x.settings (length x.work.now) _ c.requires x.work.now _ refl b)
-    (joins x.input.now x.settings (length x.work.now) _ c.requires x.work.now _ refl b c.join.ensures.value c.in-Rows.is c.join.ensures.work_after)
+    subst (λ n. Merges (map forward (rows_from segments x.input.now 0 x.settings.n)) n c.join.new.work c.in-Ok.m) (begun_size x.input.now x.settings (length x.work.now) _ c.requires x.work.now _ refl b)
+    (joins x.input.now x.settings (length x.work.now) _ c.requires x.work.now _ refl b c.join.ensures.value c.in-Ok.is c.join.ensures.work_after)
 
 pub begin-requires : goal.begin-requires
 begin-requires c =
@@ -41,16 +41,16 @@ returns-in_default c =
     }
 
 pub looks-requires : goal.looks-requires
-looks-requires c = record { kept = (first (goal.at.looks-requires c).In-Rows).kept; budget_bound = c.requires.in_range.looks }
+looks-requires c = record { kept = (first (goal.at.looks-requires c).In-Ok).kept; budget_bound = c.requires.in_range.looks }
 
 pub returns : goal.returns
 returns c =
     let x = c.args in
-    let f = first (goal.at.returns c).In-Rows in
+    let f = first (goal.at.returns c).In-Ok in
     let M = mark_room (length x.marks.now) in
     record {
       result_after = c.looks.ensures.result_after
-          ∙ ap (λ n. looks_allowed M (work_room n) x.settings.budget 0 (rows_from segments c.join.new.work 0 c.in-Rows.m)) f.size
+          ∙ ap (λ n. looks_allowed M (work_room n) x.settings.budget 0 (rows_from segments c.join.new.work 0 c.in-Ok.m)) f.size
           ∙ sym (looks-start x.input.now x.settings (length x.work.now) _ c.requires x.work.now _ refl c.begin.ensures M f);
       still_kept = c.looks.ensures.still_kept;
     }

@@ -65,5 +65,5 @@ pub returns : goal.returns
 unfolding goes_on StillKept
 returns c =
     let h = divided (goal.at.returns c).After-apply c.in-Pieces.is in
-    let p = goes_on_lem c.args.work.now c.args.m c.requires.kept h c.join.ensures.value c.in-Rows.is c.join.ensures.work_after in
+    let p = goes_on_lem c.args.work.now c.args.m c.requires.kept h c.join.ensures.value c.in-Ok.is c.join.ensures.work_after in
     record { next_value = p.0; still_kept = p.1 }

@@ -16,26 +16,14 @@ module _ (c : After-merge) where
       let s = c.sort in
       joined xs n c.requires.n_le_segment_limit c.requires.n_in_bounds (sorted-list xs n c.requires.n_le_segment_limit c.requires.n_in_bounds {r = s.result} {ys = s.new.rows} (cc s.ensures.value) s.ensures.rows_after) c.merge.ensures.value c.merge.ensures.work_after
 
-pub returns-in-Joined : goal.returns-in-Joined
+pub returns-in-Ok : goal.returns-in-Ok
 unfolding said
-returns-in-Joined c =
-    let e = merged (goal.at.returns-in-Joined c).After-merge in
-    record { value = cc (ap said c.in-Joined.is, e.0); work_after = e.1 }
+returns-in-Ok c =
+    let e = merged (goal.at.returns-in-Ok c).After-merge in
+    record { value = cc (ap said c.in-Ok.is, e.0); work_after = e.1 }
 
-pub returns-in-Same : goal.returns-in-Same
+pub returns-in-Err : goal.returns-in-Err
 unfolding said
-returns-in-Same c =
-    let e = merged (goal.at.returns-in-Same c).After-merge in
-    record { value = cc (ap said c.in-Same.is, e.0); work_after = e.1 }
-
-pub returns-in-Short : goal.returns-in-Short
-unfolding said
-returns-in-Short c =
-    let e = merged (goal.at.returns-in-Short c).After-merge in
-    record { value = cc (ap said c.in-Short.is, e.0); work_after = e.1 }
-
-pub returns-in-TooBig : goal.returns-in-TooBig
-unfolding said
-returns-in-TooBig c =
-    let e = merged (goal.at.returns-in-TooBig c).After-merge in
-    record { value = cc (ap said c.in-TooBig.is, e.0); work_after = e.1 }
+returns-in-Err c =
+    let e = merged (goal.at.returns-in-Err c).After-merge in
+    record { value = cc (ap said c.in-Err.is, e.0); work_after = e.1 }
