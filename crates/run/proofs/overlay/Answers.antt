@@ -1,7 +1,6 @@
 -- The fault decides: 1 to 6 change nothing, and the run is the definition's.
 use mathlib.Core.Path.{sym, ◌∙◌}
 use Rattle.overlay.specs.Outcome.{outcome, unless}
-use borrow.Author.Rules.{rules}
 use Rattle.run.proofs.overlay.Goals as goal
 
 pub run-requires : goal.run-requires
