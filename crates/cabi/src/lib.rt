@@ -47,7 +47,7 @@ pub extern "C" fn ciwetanos_overlay(
         rule,
         budget,
     };
-    report::of(run::overlay(input, settings, work, marks, scan, masks))
+    run::overlay(input, settings, work, marks, scan, masks).into()
 }
 
 // Eight numbers: target a, b, other a, b, at the squared radius 2. Another length is answered 1, a coordinate off the grid 3, a segment without length 4.

@@ -1,9 +1,9 @@
 -- What answer 0 says of the outcome of a run: the checks 1 to 6 passed, the looks settled, and the work and mask lists begin with the edges and their bytes.
-use Rattle.std.specs.Prelude.{◌≡◌, Bool, cond, List, map, ◌≢◌, ℤ, eqb, ltb, Result, Ok, Err}
+use Rattle.std.specs.Prelude.{◌≡◌, Bool, cond, List, ℤ, Result, Ok, Err}
 use Rattle.std.proofs.Math.Path.{refl, sym, ap, ap₂}
 use Rattle.std.proofs.Common.{◌∙◌, subst, arith}
 use Rattle.std.proofs.Math.Bool.{true, false}
-use Prim.Native.Nat.{ℕ, zero, suc, ◌+◌, ◌-◌}
+use Prim.Native.Nat.{ℕ}
 use Rattle.std.proofs.Math.ListN.{length, take}
 use Rattle.std.proofs.lemmas.List.{length-map}
 use Rattle.std.proofs.Math.Seq.{take-append_seam}
@@ -11,60 +11,21 @@ use Rattle.whole.proofs.KindLaws.{length-rows, rows-front}
 use Rattle.geom.specs.declared.Segment.{Segment}
 use Rattle.geom.specs.Limits.{work_room, mark_room, scan_room}
 use Rattle.geom.specs.Rows.{segments}
-use Rattle.segm.specs.Forward.{forward, sorted}
-use Rattle.segm.specs.Merge.{merged, too_big}
-use Rattle.split.specs.Look.{look, tidy}
 use Rattle.scan.specs.Masks.{byte_of, bytes, crowded}
 use Rattle.checks.specs.declared.Settings.{Settings}
 use Rattle.checks.specs.declared.Fault.{Fault}
 use Rattle.checks.specs.declared.Fault.TheVariants.{Short, BadSettings, OffGrid, NoLength, BadCount, Open}
 use Rattle.checks.specs.Checks.{fault_of}
 use Rattle.checks.specs.Accepted.{Accepted, accepted}
-use Rattle.overlay.specs.declared.answer.Answer.{Answer}
-use Rattle.overlay.specs.declared.answer.Answer.TheVariants.{Unsettled, ScanFull}
-use Rattle.overlay.specs.Numbers.{told, answer0}
-use Rattle.overlay.specs.Looks.{Ran, settled, refused, radius, joined, look_at, looks_from, ran}
+use Rattle.overlay.specs.declared.answer.Refusal.TheVariants.{ScanFull}
+use Rattle.overlay.specs.Numbers.{answer0}
+use Rattle.overlay.proofs.NumbersLaws.{not_zero}
+use Rattle.overlay.specs.Looks.{Ran, settled, refused, ran}
 use Rattle.overlay.specs.Outcome.{Lent, Outcome, zeros, cleared, finished, swept, unless, outcome}
-use Rattle.demands.specs.Chain.{cut, Chain}
+use Rattle.demands.specs.Chain.{Chain}
 use Rattle.demands.proofs.ExactlyLaws.{settles_exactly}
 use Rattle.demands.proofs.Lengths.{start_fits, looks_fit}
 use Rattle.demands.specs.Answer.{Answered, edges, given}
-
--- ---- a refusal is not answer 0
-
-abbrev Refusal : Answer → Type 0
-Refusal a = (told a).number ≢ 0
-
-data Proper : Ran → Type 0 where
-  list : {L : List Segment} {looks : ℕ} → Proper (settled L looks)
-  refusal : {a : Answer} → Refusal a → Proper (refused a)
-
-first_of : (b : Bool) {x y : Ran} → Proper x → Proper y → Proper (cond b x y)
-first_of true p q = p
-first_of false p q = q
-
-joined_proper : (K : List Segment) (f : List Segment → Ran) → ((L : List Segment) → Proper (f L)) → Proper (joined K f)
-unfolding joined
-joined_proper K f h = first_of (too_big (sorted K)) (refusal (λ e. omega arith)) (h (merged (sorted K)))
-
-module _ (room work : ℕ) where
-  look_proper : (final : Bool) (made : ℕ) (L : List Segment) (f : List Segment → Ran) → ((K : List Segment) → Proper (f K)) → Proper (look_at room work final made L f)
-  unfolding look_at
-  look_proper final made L f h =
-      first_of (eqb (length L) 0) list
-      (first_of (ltb room (length (look radius L))) (refusal (λ e. omega arith))
-      (first_of (eqb (length (look radius L)) 0) list
-      (first_of final (refusal (λ e. omega arith))
-      (first_of (ltb work (length L + length (tidy (look radius L)))) (refusal (λ e. omega arith)) (joined_proper (cut L) f h)))))
-
-  looks_proper : (left made : ℕ) (L : List Segment) → Proper (looks_from room work left made L)
-  unfolding looks_from
-  looks_proper zero made L = look_proper true made L (λ K. refused Unsettled) (λ K. refusal (λ e. omega arith))
-  looks_proper (suc left) made L = look_proper false made L (looks_from room work left (suc made)) (looks_proper left (suc made))
-
-  ran_proper : (budget : ℕ) (L : List Segment) → Proper (ran room work budget L)
-  unfolding ran
-  ran_proper budget L = joined_proper (map forward L) (looks_from room work (budget - 1) 0) (looks_proper (budget - 1) 0)
 
 -- ---- the sweep of what the looks come to
 
@@ -75,10 +36,10 @@ record Swept (s : Settings) (l : Lent) (r : Ran) (o : Outcome) (m looks : ℕ) :
   pub outcome : o ≡ finished s l list looks
 
 module _ (s : Settings) (l : Lent) (m looks : ℕ) where
-  swept-settled : {r : Ran} → Proper r → (swept s l r).answer ≡ answer0 m looks → Swept s l r (swept s l r) m looks
+  swept-settled : (r : Ran) → (swept s l r).answer ≡ answer0 m looks → Swept s l r (swept s l r) m looks
   unfolding swept finished
-  swept-settled (refusal n) e = absurd (n (ap (λ t. t.number) e))
-  swept-settled (list {L = L} {looks = k}) e = go (crowded (scan_room (length l.scan)) L) e
+  swept-settled (refused r) e = absurd (not_zero r (ap (λ t. t.number) e))
+  swept-settled (settled L k) e = go (crowded (scan_room (length l.scan)) L) e
     where
       go : (b : Bool) → (cond b (cleared l ScanFull) (finished s l L k)).answer ≡ answer0 m looks → Swept s l (settled L k) (cond b (cleared l ScanFull) (finished s l L k)) m looks
       go true h = absurd (let z = ap (λ t. t.number) h in omega arith)
@@ -116,7 +77,7 @@ module _ (input : List ℤ) (s : Settings) (l : Lent) (m looks : ℕ) where
       → Answered input s l (unless f l (swept s l result)) m looks
   unfolding unless
   unless-sound (Ok tt) p e =
-      given_by (swept s l result) (accepted input s (length l.work) (length l.masks) p) (swept-settled s l m looks (ran_proper _ _ s.budget (given input s)) e)
+      given_by (swept s l result) (accepted input s (length l.work) (length l.masks) p) (swept-settled s l m looks result e)
   unless-sound (Err Short) p e = absurd (let z = ap (λ t. t.number) e in omega arith)
   unless-sound (Err BadSettings) p e = absurd (let z = ap (λ t. t.number) e in omega arith)
   unless-sound (Err OffGrid) p e = absurd (let z = ap (λ t. t.number) e in omega arith)

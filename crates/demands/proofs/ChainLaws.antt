@@ -9,15 +9,11 @@ use Rattle.segm.specs.Merge.{merged, too_big}
 use Rattle.split.specs.Look.{look_from, look, tidy}
 use Rattle.whole.specs.Total.{clash}
 use Rattle.split.specs.declared.answer.Mark.{Mark}
-use Rattle.overlay.specs.declared.answer.Answer.{Answer}
-use Rattle.overlay.specs.declared.answer.Answer.TheVariants.{MarksFull, WorkFull, TooBig, Unsettled}
+use Rattle.overlay.specs.declared.answer.Refusal.TheVariants.{MarksFull, WorkFull, TooBig, Unsettled}
 use Rattle.overlay.specs.Looks.{Ran, settled, refused, radius, joined, look_at, looks_from, ran}
 use Rattle.demands.specs.Chain.{Made, Chain, Looks, Step, cut, next, start, empty, done, again, no_look, no_mark_lem, some_marks}
 
 -- ---- the run makes such a chain
-
-refusal : {B : Type 0} {a : Answer} {K : List Segment} {looks : ℕ} → refused a ≡ settled K looks → B
-refusal e = let z : ◌≡◌ {A = ℕ} 0 1 = cc in absurd (omega arith)
 
 nothing : {A : Type 0} (L : List A) → eqb (length L) 0 ≡ true → L ≡ []
 nothing [] e = refl
@@ -31,7 +27,7 @@ unfolding joined
 joined_step K J f looks e = go (too_big (sorted K)) e
   where
     go : (b : Bool) → cond b (refused TooBig) (f (merged (sorted K))) ≡ settled J looks → (b ≡ false) × (f (merged (sorted K)) ≡ settled J looks)
-    go true h = refusal h
+    go true h = absurd (cc)
     go false h = (refl, h)
 
 pub step : (room work : ℕ) (final : Bool) (made : ℕ) (L : List Segment) (f : List Segment → Ran) (K : List Segment) (looks : ℕ)
@@ -47,10 +43,10 @@ step room work final made L f K looks e =
         → cond b (settled L made) (cond c (refused MarksFull) (cond d (settled L (suc made)) (cond g (refused Unsettled) (cond h (refused WorkFull) (joined (cut L) f))))) ≡ settled K looks
         → Step room work g made L f K looks
     go true c d g h p q r t e = no_look (nothing L p) (cc) (cc)
-    go false true d g h p q r t e = refusal e
+    go false true d g h p q r t e = absurd (cc)
     go false false true g h p q r t e = no_mark_lem (something L p) (nothing ms r) (cc) (cc)
-    go false false false true h p q r t e = refusal e
-    go false false false false true p q r t e = refusal e
+    go false false false true h p q r t e = absurd (cc)
+    go false false false false true p q r t e = absurd (cc)
     go false false false false false p q r t e =
         let j = joined_step (cut L) K f looks e in
         some_marks (something ms r) refl (record { marks = ltb-false room (length ms) q; pieces = omega (arith, ltb-false work (length L + length (tidy ms)) t); totals = j.0 }) (cc j.1)
@@ -64,7 +60,7 @@ add-look {L = L} (some_marks n g p e) more = let m = more e in (L ∷ m.0, again
 module _ (room work : ℕ) where
   made_by : (left made : ℕ) (L K : List Segment) (looks : ℕ) → looks_from room work left made L ≡ settled K looks → Made L K made looks
   unfolding looks_from
-  made_by zero made L K looks e = add-look (step room work true made L (λ J. refused Unsettled) K looks e) (λ r. refusal r)
+  made_by zero made L K looks e = add-look (step room work true made L (λ J. refused Unsettled) K looks e) (λ r. absurd (cc))
   made_by (suc left) made L K looks e =
       add-look (step room work false made L (looks_from room work left (suc made)) K looks e) (made_by left (suc made) (next L) K looks)
 

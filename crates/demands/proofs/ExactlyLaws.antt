@@ -13,7 +13,7 @@ use Rattle.segm.specs.Forward.{forward, sorted}
 use Rattle.segm.specs.Merge.{merged, too_big}
 use Rattle.split.specs.declared.answer.Mark.{Mark}
 use Rattle.split.specs.Look.{look, tidy}
-use Rattle.overlay.specs.declared.answer.Answer.TheVariants.{Unsettled}
+use Rattle.overlay.specs.declared.answer.Refusal.TheVariants.{Unsettled}
 use Rattle.overlay.specs.Looks.{Ran, settled, refused, radius, joined, look_at, looks_from, ran}
 use Rattle.demands.specs.Chain.{start, next, Looks, empty, done, again, Chain, Passes, Step, no_look, no_mark_lem, some_marks}
 use Rattle.demands.proofs.ChainLaws.{joined_step, step, run_chain, no_marks}

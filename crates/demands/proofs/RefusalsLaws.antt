@@ -18,7 +18,7 @@ use Rattle.checks.specs.declared.Fault.{Fault}
 use Rattle.checks.specs.declared.Fault.TheVariants.{Short, BadSettings, OffGrid, NoLength, BadCount, Open}
 use Rattle.checks.specs.Checks.{check_says, fault_of}
 use Rattle.checks.specs.Exactly.{exactly as exactly-fault}
-use Rattle.overlay.specs.declared.answer.Answer.TheVariants.{ScanFull}
+use Rattle.overlay.specs.declared.answer.Refusal.TheVariants.{ScanFull}
 use Rattle.overlay.specs.Looks.{Ran, settled, radius, joined, look_at, looks_from, ran}
 use Rattle.overlay.specs.Outcome.{Lent, Outcome, cleared, finished, swept, unless, outcome}
 use Rattle.overlay.specs.Table.{MarksOver, marks_over?, PiecesOver, pieces_over?, TotalLeaves, total_leaves?, StillMarks, still_marks?, TooManyLive, too_many_live?}

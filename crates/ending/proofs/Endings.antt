@@ -1,14 +1,13 @@
 -- How a run ends: all lists cleared, or the sweep of a settled list, which a list that keeps what every list keeps refuses with 11 only.
-use mathlib.Core.Path.{◌≡◌, sym, ap, ap₂, ◌∙◌, subst}
+use Rattle.std.specs.Prelude.{Ok}
+use mathlib.Core.Path.{◌≡◌, sym, ap, ap₂, ◌∙◌}
 use mathlib.Core.Bool.{Bool, true, false, cond}
-use mathlib.Core.List.{List, [], ◌∷◌, ◌++◌}
+use mathlib.Core.List.{List, ◌++◌}
 use Prim.Native.Nat.{ℕ, ◌*◌, ◌≤◌}
 use native.Mathlib.Omega.{arith}
 use lib.IntN.{ℤ, pos}
 use lib.ListN.{length, drop, length-replicate}
 use borrow.Author.Tests.{le-ltb}
-use denote.Enum.Declared.{tag_of}
-use types.Run.{OneOf, miss}
 use Rattle.whole.specs.Kind.{rows_from, front}
 use Rattle.whole.proofs.KindLaws.{length-rows}
 use Rattle.whole.proofs.SumLaws.{all_map}
@@ -22,18 +21,13 @@ use Rattle.build.specs.declared.sweep.Filled.TheVariants.{Done}
 use Rattle.scan.specs.Masks.{bytes, crowded}
 use Rattle.build.specs.Fill as fill
 use Rattle.build.proofs.FillLaws.{one_case}
-use Rattle.build.specs.contracts.sweep.Filled.{the_type}
-use Rattle.overlay.specs.declared.answer.Answer.{Answer}
-use Rattle.overlay.specs.declared.answer.Answer.TheVariants.{Settled, ScanFull as Crowded}
+use Rattle.overlay.specs.declared.answer.Refusal.TheVariants.{ScanFull as Crowded}
 use Rattle.overlay.specs.Numbers.{answer0}
 use Rattle.overlay.specs.Looks.{settled}
 use Rattle.overlay.specs.Outcome.{Lent, Outcome, zeros, no_masks, cleared, finished, swept}
 use Rattle.settle.specs.Kept.{Kept}
 use Rattle.ending.specs.Lent.{lent, ended}
 use Rattle.settle.proofs.Sound.{clear, sound_on, sound-long, sound-near}
-
-pub all-cleared : (l : Lent) (a : Answer) {w m s : List ℤ} {b : List ℕ} → w ≡ zeros l.work → m ≡ zeros l.marks → s ≡ zeros l.scan → b ≡ no_masks l.masks → ended a w m s b ≡ cleared l a
-all-cleared l a e f g h = rw (e, f, g, h)
 
 module _ (s : Settings) (l : Lent) (k looks : ℕ) (range : InRange s) (kept : Kept l.work k) (room : work_room (length l.work) ≤ length l.masks) where
   abbrev L : List Segment
@@ -59,7 +53,7 @@ module _ (s : Settings) (l : Lent) (k looks : ℕ) (range : InRange s) (kept : K
     unfolding swept finished
     settles {w = w} {m = m} p q d f g = ap₂ (λ a t. record { answer = a; lists = t }) p q ∙ go full (e ∙ filled_is)
       where
-        go : (b : Bool) → fill.fill_says r sc ms ≡ swept_by b → ended (Settled k looks) w m sc ms ≡ cond b (cleared l Crowded) (finished s l L looks)
+        go : (b : Bool) → fill.fill_says r sc ms ≡ swept_by b → ended (Ok (record { segments = k; looks = looks })) w m sc ms ≡ cond b (cleared l Crowded) (finished s l L looks)
         go true h = let q : ◌≡◌ {A = ℕ} 0 11 = sym (ap fill.number_of d) ∙ ap (λ o. o.answer) h in absurd (omega arith)
         go false h = rw (f, g, ap (λ o. o.scan) h, ap (λ o. o.masks) h, length-rows segments l.work 0 k)
 

@@ -1,7 +1,6 @@
 -- The lent lists of a run, and what it ends with, in document 01's numbers.
 use Rattle.std.specs.Prelude.{List, ℕ, ℤ}
-use Rattle.overlay.specs.declared.answer.Answer.{Answer}
-use Rattle.overlay.specs.Numbers.{told}
+use Rattle.overlay.specs.Numbers.{Answer, told}
 use Rattle.overlay.specs.Outcome.{Lent, Outcome}
 
 abbrev pub lent : List ℤ → List ℤ → List ℤ → List ℕ → Lent

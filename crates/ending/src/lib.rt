@@ -5,52 +5,46 @@ ghost use Rattle.whole.specs.Kind.{rows_from};
 ghost use Rattle.geom.specs.Limits.{work_room};
 ghost use Rattle.geom.specs.Rows.{segments};
 ghost use Rattle.checks.specs.Accepted.{InRange};
-ghost use Rattle.overlay.specs.Looks.{settled};
-ghost use Rattle.overlay.specs.Outcome.{cleared, swept};
+ghost use Rattle.overlay.specs.Looks.{settled as settled_with};
+ghost use Rattle.overlay.specs.Outcome.{all_zero, swept};
 ghost use Rattle.settle.specs.Kept.{Kept};
 ghost use Rattle.ending.specs.Lent.{lent, ended};
 
 use checks::Settings;
-use overlay::answer::Answer;
+use overlay::answer::{Answer, Refusal, Settled};
 
 // 7 to 11: every list is set to zero.
-pub fn refuse(
-    a: Answer,
-    work: &mut [i32],
-    marks: &mut [i32],
-    scan: &mut [i64],
-    masks: &mut [u8],
-) -> Answer
-    ensures { ended result work.new marks.new scan.new masks.new ≡ cleared (lent work.old marks.old scan.old masks.old) a }
+pub fn clear(work: &mut [i32], marks: &mut [i32], scan: &mut [i64], masks: &mut [u8])
+    ensures { lent work.new marks.new scan.new masks.new ≡ all_zero (lent work.old marks.old scan.old masks.old) }
 {
-    lists::clear_i32(work);
-    lists::clear_i32(marks);
-    lists::clear_i64(scan);
-    lists::clear_u8(masks);
-    a
+    work.fill(0);
+    marks.fill(0);
+    scan.fill(0);
+    masks.fill(0);
 }
 
-// The sweep of the first k rows, which are settled after so many looks: 11, or the edges and their bytes.
+// The sweep of the rows that are settled: 11, or the edges and their bytes.
 pub fn finish(
     settings: Settings,
-    k: usize,
-    looks: usize,
+    settled: Settled,
     work: &mut [i32],
     marks: &mut [i32],
     scan: &mut [i64],
     masks: &mut [u8],
 ) -> Answer
     requires in_range { InRange settings }
-    requires kept { Kept work.old k }
+    requires kept { Kept work.old settled.segments }
     requires work_in_bounds { work_room (length work.old) ≤ length masks.old }
-    ensures { ended result work.new marks.new scan.new masks.new ≡ swept settings (lent work.old marks.old scan.old masks.old) (settled (rows_from segments work.old 0 k) looks) }
+    ensures { ended result work.new marks.new scan.new masks.new ≡ swept settings (lent work.old marks.old scan.old masks.old) (settled_with (rows_from segments work.old 0 settled.segments) settled.looks) }
 {
+    let k = settled.segments;
     let fill = settings.fill;
     let rule = settings.rule;
     let build::sweep::Filled::Done = build::sweep::fill(work, k, fill, rule, scan, masks) else {
-        return refuse(Answer::ScanFull, work, marks, scan, masks);
+        clear(work, marks, scan, masks);
+        return Err(Refusal::ScanFull);
     };
     steps::clear_behind(work, k);
-    lists::clear_i32(marks);
-    Answer::Settled(k, looks)
+    marks.fill(0);
+    Ok(settled)
 }

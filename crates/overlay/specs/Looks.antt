@@ -5,13 +5,13 @@ use Rattle.segm.specs.Forward.{forward, sorted}
 use Rattle.segm.specs.Merge.{merged, too_big}
 use Rattle.split.specs.Look.{look, tidy}
 use Rattle.split.specs.Chain.{split}
-use Rattle.overlay.specs.declared.answer.Answer.{Answer}
-use Rattle.overlay.specs.declared.answer.Answer.TheVariants.{MarksFull, WorkFull, TooBig, Unsettled}
+use Rattle.overlay.specs.declared.answer.Refusal.{Refusal}
+use Rattle.overlay.specs.declared.answer.Refusal.TheVariants.{MarksFull, WorkFull, TooBig, Unsettled}
 
 -- what the looks come to: a settled list and the looks made, or a refusal
 pub data Ran : Type 0 where
   settled : List Segment → ℕ → Ran
-  refused : Answer → Ran
+  refused : Refusal → Ran
 
 -- the squared radius of snapping
 abbrev pub radius : ℕ

@@ -1,7 +1,8 @@
 -- Document 01's number, m and looks of each answer ("Input and answer"): every refusal returns zero segments and zero looks.
-use Rattle.std.specs.Prelude.{ℕ}
-use Rattle.overlay.specs.declared.answer.Answer.{Answer}
-use Rattle.overlay.specs.declared.answer.Answer.TheVariants.{Settled, Short, BadSettings, OffGrid, NoLength, BadCount, Open, MarksFull, WorkFull, TooBig, Unsettled, ScanFull}
+use Rattle.std.specs.Prelude.{Result, Ok, Err, ℕ}
+use Rattle.overlay.specs.declared.answer.Settled.{Settled}
+use Rattle.overlay.specs.declared.answer.Refusal.{Refusal}
+use Rattle.overlay.specs.declared.answer.Refusal.TheVariants.{Short, BadSettings, OffGrid, NoLength, BadCount, Open, MarksFull, WorkFull, TooBig, Unsettled, ScanFull}
 
 pub record Told : Type 0 where
   pub number : ℕ
@@ -14,16 +15,22 @@ answer0 m looks = record { number = 0; segments = m; looks = looks }
 abbrev pub refusal : ℕ → Told
 refusal k = record { number = k; segments = 0; looks = 0 }
 
+abbrev pub number_of : Refusal → ℕ
+number_of Short = 1
+number_of BadSettings = 2
+number_of OffGrid = 3
+number_of NoLength = 4
+number_of BadCount = 5
+number_of Open = 6
+number_of MarksFull = 7
+number_of WorkFull = 8
+number_of TooBig = 9
+number_of Unsettled = 10
+number_of ScanFull = 11
+
+abbrev pub Answer : Type 0
+Answer = Result Settled Refusal
+
 abbrev pub told : Answer → Told
-told (Settled m looks) = answer0 m looks
-told Short = refusal 1
-told BadSettings = refusal 2
-told OffGrid = refusal 3
-told NoLength = refusal 4
-told BadCount = refusal 5
-told Open = refusal 6
-told MarksFull = refusal 7
-told WorkFull = refusal 8
-told TooBig = refusal 9
-told Unsettled = refusal 10
-told ScanFull = refusal 11
+told (Ok s) = answer0 s.segments s.looks
+told (Err r) = refusal (number_of r)

@@ -1,5 +1,5 @@
 -- The whole outcome of a run: the number of the answer, m and looks, and what every lent list then holds ("Input and answer").
-use Rattle.std.specs.Prelude.{cond, List, ◌++◌, ℕ, ℤ, pos, length, drop, replicate, Result, Ok, Err}
+use Rattle.std.specs.Prelude.{cond, Ok, Err, Result, List, ◌++◌, ℕ, ℤ, pos, length, drop, replicate}
 use Rattle.whole.specs.Kind.{rows_from, front}
 use Rattle.geom.specs.declared.Segment.{Segment}
 use Rattle.geom.specs.Limits.{work_room, mark_room, scan_room}
@@ -9,8 +9,8 @@ use Rattle.checks.specs.declared.Settings.{Settings}
 use Rattle.checks.specs.declared.Fault.{Fault}
 use Rattle.checks.specs.declared.Fault.TheVariants as fault
 use Rattle.checks.specs.Checks.{fault_of}
-use Rattle.overlay.specs.declared.answer.Answer.{Answer}
-use Rattle.overlay.specs.declared.answer.Answer.TheVariants.{Short, BadSettings, OffGrid, NoLength, BadCount, Open, ScanFull}
+use Rattle.overlay.specs.declared.answer.Refusal.{Refusal}
+use Rattle.overlay.specs.declared.answer.Refusal.TheVariants.{Short, BadSettings, OffGrid, NoLength, BadCount, Open, ScanFull}
 use Rattle.overlay.specs.Numbers.{Told, told, answer0}
 use Rattle.overlay.specs.Looks.{Ran, settled, refused, ran}
 
@@ -26,8 +26,8 @@ pub record Outcome : Type 0 where
   pub lists : Lent
 
 -- 1 to 6 change nothing
-abbrev pub unchanged : Lent → Answer → Outcome
-unchanged l a = record { answer = told a; lists = l }
+abbrev pub unchanged : Lent → Refusal → Outcome
+unchanged l r = record { answer = told (Err r); lists = l }
 
 abbrev pub zeros : List ℤ → List ℤ
 zeros xs = replicate (length xs) (pos 0)
@@ -35,9 +35,12 @@ zeros xs = replicate (length xs) (pos 0)
 abbrev pub no_masks : List ℕ → List ℕ
 no_masks ms = replicate (length ms) 0
 
+abbrev pub all_zero : Lent → Lent
+all_zero l = record { work = zeros l.work; marks = zeros l.marks; scan = zeros l.scan; masks = no_masks l.masks }
+
 -- 7 to 11 set every list wholly to zero
-abbrev pub cleared : Lent → Answer → Outcome
-cleared l a = record { answer = told a; lists = record { work = zeros l.work; marks = zeros l.marks; scan = zeros l.scan; masks = no_masks l.masks } }
+abbrev pub cleared : Lent → Refusal → Outcome
+cleared l r = record { answer = told (Err r); lists = all_zero l }
 
 -- 0: the segments and then zeros, their bytes and then zeros, marks and scan all zero
 unfoldable pub finished : Settings → Lent → List Segment → ℕ → Outcome
@@ -54,7 +57,7 @@ finished s l L looks =
 
 -- the sweep of a settled list: 11 where some node has too many live segments
 unfoldable pub swept : Settings → Lent → Ran → Outcome
-swept s l (refused a) = cleared l a
+swept s l (refused r) = cleared l r
 swept s l (settled L looks) = let r = finished s l L looks in cond (crowded (scan_room (length l.scan)) L) (cleared l ScanFull) r
 
 -- a fault of the input, or else what the run comes to

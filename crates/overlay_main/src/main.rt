@@ -5,7 +5,7 @@ ghost use Rattle.text.specs.Put.{Put};
 ghost use Rattle.ending.specs.Lent.{lent};
 ghost use Rattle.overlay_main.specs.Reply.{reply as reply_of};
 
-use overlay::answer::Answer;
+use overlay::answer::Refusal;
 use std::io;
 use wire::Decoded;
 
@@ -49,6 +49,6 @@ fn reply(
             let a = run::overlay(input, settings, work, marks, scan, masks);
             text::write(a, work, masks, out)
         }
-        Decoded::Broken => text::write(Answer::Short, work, masks, out),
+        Decoded::Broken => text::write(Err(Refusal::Short), work, masks, out),
     }
 }

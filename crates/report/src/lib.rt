@@ -1,7 +1,7 @@
 #![tactic(auto)]
 // An answer as three numbers, for callers that take no enum: programs and the languages that link the library.
 ghost use Rattle.std.specs.Prelude.{◌≡◌};
-ghost use Rattle.overlay.specs.Numbers.{refusal, told};
+ghost use Rattle.overlay.specs.Numbers.{told};
 ghost use Rattle.report.specs.Report.{reported};
 
 use overlay::answer::Answer;
@@ -15,35 +15,27 @@ pub struct Report {
     pub looks: u64,
 }
 
-pub fn of(a: Answer) -> Report
-    ensures { result ≡ reported (told a) }
-{
-    match a {
-        Answer::Settled(m, looks) => Report {
-            answer: 0,
-            segments: m as u64,
-            looks: looks as u64,
-        },
-        Answer::Short => refused(1),
-        Answer::BadSettings => refused(2),
-        Answer::OffGrid => refused(3),
-        Answer::NoLength => refused(4),
-        Answer::BadCount => refused(5),
-        Answer::Open => refused(6),
-        Answer::MarksFull => refused(7),
-        Answer::WorkFull => refused(8),
-        Answer::TooBig => refused(9),
-        Answer::Unsettled => refused(10),
-        Answer::ScanFull => refused(11),
+impl From<Answer> for Report {
+    ghost from_gives = { λ a r. r ≡ reported (told a) };
+
+    fn from(a: Answer) -> Report {
+        match a {
+            Ok(settled) => Report {
+                answer: 0,
+                segments: settled.segments as u64,
+                looks: settled.looks as u64,
+            },
+            Err(refusal) => Report {
+                answer: refusal.number(),
+                segments: 0,
+                looks: 0,
+            },
+        }
     }
 }
 
-fn refused(number: u64) -> Report
-    ensures { result ≡ reported (refusal number) }
+pub fn of(a: Answer) -> Report
+    ensures { result ≡ reported (told a) }
 {
-    Report {
-        answer: number,
-        segments: 0,
-        looks: 0,
-    }
+    Report::from(a)
 }

@@ -22,7 +22,7 @@ use Rattle.checks.specs.Accepted.{Accepted}
 use Rattle.std.specs.Prelude.{Result, Ok, Err}
 use Rattle.steps.specs.declared.TooBig.{TooBig}
 use Rattle.steps.specs.Joining.{join_answer, join_list}
-use Rattle.overlay.specs.declared.answer.Answer.TheVariants.{TooBig as Big}
+use Rattle.overlay.specs.declared.answer.Refusal.TheVariants.{TooBig as Big}
 use Rattle.overlay.specs.Looks.{Ran, settled, refused, joined, ran}
 use Rattle.overlay.specs.Outcome.{finished, swept}
 use Rattle.ending.specs.Lent.{lent}
@@ -80,4 +80,4 @@ module _ (input : List ℤ) (s : Settings) (work masks : ℕ) (yes : Accepted in
 pub same_lengths : (s : Settings) (w v m n sc : List ℤ) (ms : List ℕ) (r : Ran) → length w ≡ length v → length m ≡ length n → swept s (lent w m sc ms) r ≡ swept s (lent v n sc ms) r
 unfolding swept finished
 same_lengths s w v m n sc ms (settled K looks) e f = rw (e, f)
-same_lengths s w v m n sc ms (refused a) e f = rw (e, f)
+same_lengths s w v m n sc ms (refused r) e f = rw (e, f)

@@ -1,7 +1,7 @@
 -- The promise of `overlay` settles its answer and its lists.
 use Rattle.std.specs.Prelude.{◌≡◌, List, ℕ, ℤ}
 use Rattle.std.proofs.Common.{sym, ap, ◌∙◌}
-use Rattle.overlay.specs.declared.answer.Answer.{Answer}
+use Rattle.overlay.specs.Numbers.{Answer}
 use Rattle.overlay.proofs.NumbersLaws.{told_injective}
 use Rattle.overlay.specs.Outcome.{Lent, outcome}
 use Rattle.checks.specs.declared.Settings.{Settings}

@@ -1,6 +1,6 @@
 #![tactic(auto)]
 // The run: the input is checked, turned, sorted and merged, looked at and split until it is settled, then swept (core/).
-ghost use Rattle.std.specs.Prelude.{◌≡◌, Ok, length};
+ghost use Rattle.std.specs.Prelude.{IfOk, Ok, ◌≡◌, length};
 ghost use Rattle.whole.specs.Kind.{rows_from};
 ghost use Rattle.geom.specs.Limits.{work_room, mark_room};
 ghost use Rattle.geom.specs.Rows.{segments};
@@ -8,12 +8,12 @@ ghost use Rattle.overlay.specs.Looks.{ran};
 ghost use Rattle.checks.specs.Checks.{fault_of};
 ghost use Rattle.checks.specs.Accepted.{Accepted};
 ghost use Rattle.overlay.specs.Outcome.{swept, outcome};
-ghost use Rattle.settle.specs.Step.{goes_on, StillKept, unsettled};
+ghost use Rattle.settle.specs.Kept.{Kept};
+ghost use Rattle.settle.specs.Step.{came_to};
 ghost use Rattle.ending.specs.Lent.{lent, ended};
 
 use checks::{Fault, Settings};
-use overlay::answer::Answer;
-use settle::Step;
+use overlay::answer::{Answer, Refusal};
 
 // The overlay of the first n segments of the input, which is never written. 1 to 6 change nothing, 7 to 11 set every other list to zero.
 pub fn overlay(
@@ -28,12 +28,12 @@ pub fn overlay(
 {
     match checks::check(input, settings, work.len(), masks.len()) {
         Ok(()) => run(input, settings, work, marks, scan, masks),
-        Err(Fault::Short) => Answer::Short,
-        Err(Fault::BadSettings) => Answer::BadSettings,
-        Err(Fault::OffGrid) => Answer::OffGrid,
-        Err(Fault::NoLength) => Answer::NoLength,
-        Err(Fault::BadCount) => Answer::BadCount,
-        Err(Fault::Open) => Answer::Open,
+        Err(Fault::Short) => Err(Refusal::Short),
+        Err(Fault::BadSettings) => Err(Refusal::BadSettings),
+        Err(Fault::OffGrid) => Err(Refusal::OffGrid),
+        Err(Fault::NoLength) => Err(Refusal::NoLength),
+        Err(Fault::BadCount) => Err(Refusal::BadCount),
+        Err(Fault::Open) => Err(Refusal::Open),
     }
 }
 
@@ -50,23 +50,24 @@ fn run(
     ensures { ended result work.new marks.new scan.new masks.new ≡ swept settings (lent work.old marks.old scan.old masks.old) (ran (mark_room (length marks.old)) (work_room (length work.old)) settings.budget (rows_from segments input.now 0 settings.n)) }
 {
     match until_settled(input, settings, work, marks) {
-        Step::Settled(k, made) => ending::finish(settings, k, made, work, marks, scan, masks),
-        Step::Refused(a) => ending::refuse(a, work, marks, scan, masks),
-        Step::Next(_) => ending::refuse(Answer::Unsettled, work, marks, scan, masks),
+        Ok(settled) => ending::finish(settings, settled, work, marks, scan, masks),
+        Err(refusal) => {
+            ending::clear(work, marks, scan, masks);
+            Err(refusal)
+        }
     }
 }
 
 // The input turned, sorted and merged, and looked at until it is settled.
-fn until_settled(input: &[i32], settings: Settings, work: &mut [i32], marks: &mut [i32]) -> Step
+fn until_settled(input: &[i32], settings: Settings, work: &mut [i32], marks: &mut [i32]) -> Answer
     requires { Accepted input.now settings (length work.old) (work_room (length work.old)) }
-    ensures result_after { goes_on unsettled work.new result ≡ ran (mark_room (length marks.old)) (work_room (length work.old)) settings.budget (rows_from segments input.now 0 settings.n) }
-    ensures still_kept { StillKept work.new result }
+    ensures result_after { came_to work.new result ≡ ran (mark_room (length marks.old)) (work_room (length work.old)) settings.budget (rows_from segments input.now 0 settings.n) }
+    ensures still_kept { IfOk result (λ s. Kept work.new s.segments) }
 {
     let n = settings.n;
-    let budget = settings.budget as usize;
     steps::begin(input, n, work);
     let Ok(m) = steps::join(work, n) else {
-        return Step::Refused(Answer::TooBig);
+        return Err(Refusal::TooBig);
     };
-    settle::looks(work, m, marks, budget)
+    settle::looks(work, m, marks, settings.budget as usize)
 }

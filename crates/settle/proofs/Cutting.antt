@@ -32,7 +32,7 @@ use Rattle.apply.proofs.Back.{number-split}
 use Rattle.std.specs.Prelude.{Result, Ok, Err}
 use Rattle.steps.specs.declared.TooBig.{TooBig}
 use Rattle.steps.specs.Joining.{join_answer, join_list}
-use Rattle.overlay.specs.declared.answer.Answer.TheVariants.{WorkFull, TooBig as Big}
+use Rattle.overlay.specs.declared.answer.Refusal.TheVariants.{WorkFull, TooBig as Big}
 use Rattle.overlay.specs.Looks.{Ran, refused, radius, joined}
 use Rattle.demands.specs.Chain.{cut}
 use Rattle.demands.proofs.PiecesLaws.{cut_is_good}

@@ -23,7 +23,7 @@ use Rattle.split.specs.Marks.{marks}
 use Rattle.split.specs.Look.{look}
 use Rattle.split.specs.Looked.{counted, look_answer}
 use Rattle.pairwise.specs.Listed.{look_list}
-use Rattle.overlay.specs.declared.answer.Answer.TheVariants.{MarksFull as Full, Unsettled}
+use Rattle.overlay.specs.declared.answer.Refusal.TheVariants.{MarksFull as Full, Unsettled}
 use Rattle.overlay.specs.Looks.{Ran, settled, refused, radius, look_at}
 use Rattle.settle.specs.Kept.{Kept, Marked}
 use Rattle.settle.specs.Step.{split_at}

@@ -1,5 +1,6 @@
 -- The looks of the checked input come to what the definition says, and each of their endings is the definition's.
-use mathlib.Core.Path.{◌≡◌, sym, ap, ◌∙◌, subst}
+use Rattle.std.specs.Prelude.{Err}
+use mathlib.Core.Path.{◌≡◌, sym, ap, ◌∙◌}
 use native.Mathlib.Omega.{arith}
 use mathlib.Core.List.{List}
 use lib.IntN.{ℤ}
@@ -8,10 +9,10 @@ use Rattle.whole.specs.Kind.{rows_from}
 use Rattle.geom.specs.Limits.{work_room, mark_room}
 use Rattle.geom.specs.Rows.{segments}
 use Rattle.checks.specs.Accepted.{Accepted, accepted}
+use Rattle.overlay.specs.Numbers.{Answer, told}
 use Rattle.overlay.specs.Looks.{Ran, ran}
 use Rattle.overlay.specs.Outcome.{Lent, Outcome, swept}
-use Rattle.settle.specs.declared.Step.{Step}
-use Rattle.settle.specs.Step.{goes_on, StillKept, unsettled}
+use Rattle.settle.specs.Step.{came_to}
 use Rattle.ending.specs.Lent.{lent}
 use Rattle.run.proofs.Starting.{less-bytes, same_lengths}
 use borrow.Author.Rules.{rules}
@@ -37,37 +38,33 @@ module _ (c : After-until_settled) where
   marks_size : length c.until_settled.new.marks ≡ length c.args.marks.now
   marks_size = search rules
 
-  ends : {r : Step} {o : Outcome} → c.until_settled.result ≡ r
-      → o ≡ swept c.args.settings (lent left c.until_settled.new.marks c.args.scan.now c.args.masks.now) (goes_on unsettled left r)
+  ends : {r : Answer} {o : Outcome} → c.until_settled.result ≡ r
+      → o ≡ swept c.args.settings (lent left c.until_settled.new.marks c.args.scan.now c.args.masks.now) (came_to left r)
       → o ≡ swept c.args.settings lists comes
   ends {r} e h =
       let x = c.args in
       h
-      ∙ same_lengths x.settings left x.work.now c.until_settled.new.marks x.marks.now x.scan.now x.masks.now (goes_on unsettled left r) work_size marks_size
-      ∙ ap (swept x.settings lists) (sym (ap (goes_on unsettled left) e) ∙ c.until_settled.ensures.result_after)
+      ∙ same_lengths x.settings left x.work.now c.until_settled.new.marks x.marks.now x.scan.now x.masks.now (came_to left r) work_size marks_size
+      ∙ ap (swept x.settings lists) (sym (ap (came_to left) e) ∙ c.until_settled.ensures.result_after)
 
 pub until_settled-requires : goal.until_settled-requires
 until_settled-requires c = less-bytes (fine (goal.at.until_settled-requires c).Start)
 
 pub finish-requires : goal.finish-requires
-unfolding StillKept
 finish-requires c =
     let f = fine (goal.at.finish-requires c).Start in
     let l = (goal.at.finish-requires c).After-until_settled in
     record {
       in_range = f.in_range;
-      kept = subst (StillKept c.until_settled.new.work) c.in-Settled.is c.until_settled.ensures.still_kept;
+      kept = c.in-Ok.ensures.still_kept;
       work_in_bounds = omega (arith, f.roomy.bytes, work_size l);
     }
 
-pub returns-in-Settled : goal.returns-in-Settled
-unfolding swept goes_on
-returns-in-Settled c = ends (goal.at.returns-in-Settled c).After-until_settled c.in-Settled.is c.finish.ensures
+pub returns-in-Ok : goal.returns-in-Ok
+returns-in-Ok c = ends (goal.at.returns-in-Ok c).After-until_settled c.in-Ok.is c.finish.ensures
 
-pub returns-in-Refused : goal.returns-in-Refused
-unfolding swept goes_on
-returns-in-Refused c = ends (goal.at.returns-in-Refused c).After-until_settled c.in-Refused.is c.refuse.ensures
-
-pub returns-in-Next : goal.returns-in-Next
-unfolding swept goes_on
-returns-in-Next c = ends (goal.at.returns-in-Next c).After-until_settled c.in-Next.is c.refuse-in-Next.ensures
+pub returns-in-Err : goal.returns-in-Err
+unfolding swept
+returns-in-Err c =
+    ends (goal.at.returns-in-Err c).After-until_settled c.in-Err.is
+    (ap (λ (l : Lent). record { answer = told (Err c.in-Err.refusal); lists = l }) c.clear.ensures)

@@ -7,7 +7,7 @@ use Rattle.whole.specs.Kind.{rows_from}
 use Rattle.geom.specs.Limits.{work_room, mark_room}
 use Rattle.geom.specs.Rows.{segments}
 use Rattle.segm.specs.Forward.{forward}
-use Rattle.settle.specs.Step.{goes_on, StillKept, looks_allowed}
+use Rattle.settle.specs.Step.{looks_allowed}
 use Rattle.settle.proofs.Joining.{Merges}
 use Rattle.run.proofs.Starting.{no_least, begun_size, begun_room, joins, refuses_9, looks-start}
 use Rattle.run.proofs.until_settled.Goals as goal
@@ -31,26 +31,19 @@ join-requires c =
     let p = begun_room x.input.now x.settings (length x.work.now) _ c.requires x.work.now _ refl c.begin.ensures in
     record { n_le_segment_limit = p.0; n_in_bounds = p.1 }
 
-pub returns-in_default : goal.returns-in_default
-unfolding goes_on StillKept
-returns-in_default c =
+pub returns-in_default-clause-result_after : goal.returns-in_default-clause-result_after
+returns-in_default-clause-result_after c =
     let x = c.args in
-    record {
-      result_after = sym (refuses_9 x.input.now x.settings (length x.work.now) _ c.requires x.work.now _ refl c.begin.ensures (mark_room (length x.marks.now)) c.join.ensures.value c.in_default.is);
-      still_kept = tt;
-    }
+    sym (refuses_9 x.input.now x.settings (length x.work.now) _ c.requires x.work.now _ refl c.begin.ensures (mark_room (length x.marks.now)) c.join.ensures.value c.in_default.is)
 
 pub looks-requires : goal.looks-requires
 looks-requires c = record { kept = (first (goal.at.looks-requires c).In-Ok).kept; budget_bound = c.requires.in_range.looks }
 
-pub returns : goal.returns
-returns c =
+pub returns-clause-result_after : goal.returns-clause-result_after
+returns-clause-result_after c =
     let x = c.args in
-    let f = first (goal.at.returns c).In-Ok in
+    let f = first (goal.at.returns-clause-result_after c).In-Ok in
     let M = mark_room (length x.marks.now) in
-    record {
-      result_after = c.looks.ensures.result_after
-          ∙ ap (λ n. looks_allowed M (work_room n) x.settings.budget 0 (rows_from segments c.join.new.work 0 c.in-Ok.m)) f.size
-          ∙ sym (looks-start x.input.now x.settings (length x.work.now) _ c.requires x.work.now _ refl c.begin.ensures M f);
-      still_kept = c.looks.ensures.still_kept;
-    }
+    c.looks.ensures.result_after
+    ∙ ap (λ n. looks_allowed M (work_room n) x.settings.budget 0 (rows_from segments c.join.new.work 0 c.in-Ok.m)) f.size
+    ∙ sym (looks-start x.input.now x.settings (length x.work.now) _ c.requires x.work.now _ refl c.begin.ensures M f)

@@ -1,8 +1,7 @@
 -- Each way out of a look is a clause of the definition, as the laws of Looking say.
-use mathlib.Core.Path.{◌∙◌, subst}
+use mathlib.Core.Path.{◌∙◌}
 use native.Mathlib.Omega.{arith}
-use Rattle.settle.specs.Kept.{Kept}
-use Rattle.settle.specs.Step.{goes_on, StillKept}
+use Rattle.std.proofs.lemmas.Result.{err_from_is_err_and}
 use Rattle.settle.proofs.Looking.{Found, found, is_marked, no_rows, refuses_7, settles, refuses_10, splits}
 use Rattle.settle.proofs.advance.Goals as goal
 use Rattle.settle.proofs.advance.Goals.{In-Marks}
@@ -10,54 +9,42 @@ use Rattle.settle.proofs.advance.Goals.{In-Marks}
 counted : (c : In-Marks) → Found c.args.work.now c.args.m c.requires.kept c.args.marks.now c.in-Marks.count
 counted c = found c.args.work.now c.args.m c.requires.kept c.args.marks.now (cc) c.in-Marks.is
 
-pub returns-then-m-eq0 : goal.returns-then-m-eq0
-unfolding goes_on StillKept
-returns-then-m-eq0 c =
+pub returns-then-m-eq0-clause-next_value : goal.returns-then-m-eq0-clause-next_value
+returns-then-m-eq0-clause-next_value c =
     let s = c.args in
-    record {
-      next_value = λ f. cc (no_rows s.work.now s.m c.requires.kept s.marks.now s.last s.made f c.if-m-eq0.true);
-      still_kept = subst (Kept s.work.now) c.if-m-eq0.true c.requires.kept;
-    }
+    λ f. no_rows s.work.now s.m c.requires.kept s.marks.now s.last s.made f c.if-m-eq0.true
 
-pub returns-in_default : goal.returns-in_default
-unfolding goes_on StillKept
-returns-in_default c =
+pub returns-in_default-clause-next_value : goal.returns-in_default-clause-next_value
+returns-in_default-clause-next_value c =
     let s = c.args in
-    record {
-      next_value = λ f. cc (refuses_7 s.work.now s.m c.requires.kept s.marks.now s.last s.made f c.if-m-eq0.false c.look.ensures.value c.in_default.not-Marks);
-      still_kept = tt;
-    }
+    λ f. refuses_7 s.work.now s.m c.requires.kept s.marks.now s.last s.made f c.if-m-eq0.false c.look.ensures.value c.in_default.not-Marks
 
-pub returns-then-count-eq0 : goal.returns-then-count-eq0
-unfolding goes_on StillKept
-returns-then-count-eq0 c =
+pub returns-then-count-eq0-clause-next_value : goal.returns-then-count-eq0-clause-next_value
+returns-then-count-eq0-clause-next_value c =
     let s = c.args in
-    let k = counted (goal.at.returns-then-count-eq0 c).In-Marks in
-    record {
-      next_value = λ f. cc (settles s.work.now s.m c.requires.kept s.marks.now s.last s.made f c.if-m-eq0.false k (omega arith));
-      still_kept = c.requires.kept;
-    }
+    let k = counted (goal.at.returns-then-count-eq0-clause-next_value c).In-Marks in
+    λ f. settles s.work.now s.m c.requires.kept s.marks.now s.last s.made f c.if-m-eq0.false k (omega arith)
 
-pub returns-then-last : goal.returns-then-last
-unfolding goes_on StillKept
-returns-then-last c =
+pub returns-then-last-clause-next_value : goal.returns-then-last-clause-next_value
+returns-then-last-clause-next_value c =
     let s = c.args in
-    let k = counted (goal.at.returns-then-last c).In-Marks in
-    record {
-      next_value = λ f. cc (refuses_10 s.work.now s.m c.requires.kept s.marks.now s.last s.made f c.if-m-eq0.false k c.if-count-eq0.false c.if-last.true);
-      still_kept = tt;
-    }
+    let k = counted (goal.at.returns-then-last-clause-next_value c).In-Marks in
+    λ f. refuses_10 s.work.now s.m c.requires.kept s.marks.now s.last s.made f c.if-m-eq0.false k c.if-count-eq0.false c.if-last.true
 
 pub cut-requires-clause-marked : goal.cut-requires-clause-marked
 cut-requires-clause-marked c =
     let s = c.args in
     is_marked s.work.now s.m c.requires.kept s.marks.now (counted (goal.at.cut-requires-clause-marked c).In-Marks) c.in-Marks.is c.look.ensures.marks_after
 
-pub returns : goal.returns
-returns c =
+pub returns-in_err-cut-clause-next_value : goal.returns-in_err-cut-clause-next_value
+returns-in_err-cut-clause-next_value c =
     let s = c.args in
-    let k = counted (goal.at.returns c).In-Marks in
-    record {
-      next_value = λ f. splits s.work.now s.m c.requires.kept s.marks.now s.last s.made f c.if-m-eq0.false k c.if-count-eq0.false c.if-last.false ∙ c.cut.ensures.next_value f;
-      still_kept = c.cut.ensures.still_kept;
-    }
+    let k = counted (goal.at.returns-in_err-cut-clause-next_value c).In-Marks in
+    let p = err_from_is_err_and c.from_residual.result c.from_residual.ensures.1 in
+    λ f. rw (p.1, p.2) (splits s.work.now s.m c.requires.kept s.marks.now s.last s.made f c.if-m-eq0.false k c.if-count-eq0.false c.if-last.false ∙ c.in_err-cut.ensures.err f)
+
+pub returns-clause-next_value : goal.returns-clause-next_value
+returns-clause-next_value c =
+    let s = c.args in
+    let k = counted (goal.at.returns-clause-next_value c).In-Marks in
+    λ f. splits s.work.now s.m c.requires.kept s.marks.now s.last s.made f c.if-m-eq0.false k c.if-count-eq0.false c.if-last.false ∙ c.in_ok-cut.ensures.ok f

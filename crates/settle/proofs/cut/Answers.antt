@@ -11,7 +11,6 @@ use Rattle.split.specs.Look.{look, tidy}
 use Rattle.apply.specs.declared.Applied.TheVariants.{Pieces}
 use Rattle.apply.specs.Answer.{apply_answer, apply_list}
 use Rattle.overlay.specs.Looks.{radius}
-use Rattle.settle.specs.Step.{goes_on, StillKept}
 use Rattle.settle.proofs.Cutting.{Tidy, Split, is_distinct, is_tidy, never_short, is_split, is_full, refuses_8, goes_on_lem, refuses_9}
 use Rattle.settle.proofs.cut.Goals as goal
 use Rattle.settle.proofs.cut.Goals.{After-apply}
@@ -34,36 +33,27 @@ module _ (c : After-apply) where
       is_split c.args.work.now c.args.m c.requires.kept tidied answered e
       (c.apply.ensures.work_after ∙ ap (apply_list c.apply.result c.args.work.now c.args.m c.tidy.new.marks) number)
 
-pub returns-in_default : goal.returns-in_default
-returns-in_default c = absurd (never_short c.requires.marked c.tidy.ensures.value c.in_default.not-Distinct)
+pub returns-in_default-clause-err : goal.returns-in_default-clause-err
+returns-in_default-clause-err c = absurd (never_short c.requires.marked c.tidy.ensures.value c.in_default.not-Distinct)
 
-pub returns-in_default-apply : goal.returns-in_default-apply
-unfolding goes_on StillKept
-returns-in_default-apply c =
+pub returns-in_default-apply-clause-err : goal.returns-in_default-apply-clause-err
+returns-in_default-apply-clause-err c =
     let xs = c.args.work.now in
-    let a = (goal.at.returns-in_default-apply c).After-apply in
-    record {
-      next_value = λ f. cc (refuses_8 xs c.args.m c.requires.kept (is_full xs c.args.m c.requires.kept (tidied a) (answered a) c.in_default-apply.not-Pieces) f);
-      still_kept = tt;
-    }
+    let a = (goal.at.returns-in_default-apply-clause-err c).After-apply in
+    refuses_8 xs c.args.m c.requires.kept (is_full xs c.args.m c.requires.kept (tidied a) (answered a) c.in_default-apply.not-Pieces)
 
 pub join-requires : goal.join-requires
 join-requires c =
     let h = divided (goal.at.join-requires c).After-apply c.in-Pieces.is in
     record { n_le_segment_limit = omega (arith, h.room); n_in_bounds = omega (arith, h.room, h.size) }
 
-pub returns-in_default-join : goal.returns-in_default-join
-unfolding goes_on StillKept
-returns-in_default-join c =
-    let h = divided (goal.at.returns-in_default-join c).After-apply c.in-Pieces.is in
-    record {
-      next_value = λ f. cc (refuses_9 c.args.work.now c.args.m c.requires.kept h c.join.ensures.value c.in_default-join.is f);
-      still_kept = tt;
-    }
+pub returns-in_default-join-clause-err : goal.returns-in_default-join-clause-err
+returns-in_default-join-clause-err c =
+    let h = divided (goal.at.returns-in_default-join-clause-err c).After-apply c.in-Pieces.is in
+    refuses_9 c.args.work.now c.args.m c.requires.kept h c.join.ensures.value c.in_default-join.is
 
 pub returns : goal.returns
-unfolding goes_on StillKept
 returns c =
     let h = divided (goal.at.returns c).After-apply c.in-Pieces.is in
     let p = goes_on_lem c.args.work.now c.args.m c.requires.kept h c.join.ensures.value c.in-Ok.is c.join.ensures.work_after in
-    record { next_value = p.0; still_kept = p.1 }
+    record { ok = p.0; err = tt; still_kept = p.1 }
