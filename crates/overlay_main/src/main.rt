@@ -7,7 +7,6 @@ ghost use Rattle.overlay_main.specs.Reply.{reply as reply_of};
 
 use overlay::answer::Refusal;
 use std::io;
-use wire::Decoded;
 
 fn main(rt: HostRuntime) -> io::Result<()> {
     // Room for 2,048 segments and more, so that an extra byte is noticed.
@@ -31,7 +30,9 @@ fn main(rt: HostRuntime) -> io::Result<()> {
     rt.write_all(&out[..k])
 }
 
-// What is written for what was read: how many bytes, which then stand at the front of `out`.
+// What is written for what was read: how many bytes, which then stand at the front of `out`. The lists are parameters of
+// this function alone: a struct of them would be made once and taken apart once.
+#[tactic(auto, unfolding(wire::specs::Asked::decoded_as, crate::specs::Reply::reply))]
 fn reply(
     bytes: &[u8],
     input: &mut [i32],
@@ -45,10 +46,10 @@ fn reply(
     ensures upper_bound { result ≤ 313386 }
 {
     match wire::decode(bytes, input) {
-        Decoded::Asked(settings) => {
+        Some(settings) => {
             let a = run::overlay(input, settings, work, marks, scan, masks);
             text::write(a, work, masks, out)
         }
-        Decoded::Broken => text::write(Err(Refusal::Short), work, masks, out),
+        None => text::write(Err(Refusal::Short), work, masks, out),
     }
 }

@@ -1,34 +1,24 @@
 #![tactic(auto)]
 // Stored cases, as text: whole numbers with white space between them (rust/README.md, "Stored cases"). Each is run again, and the answer and
 // every number of the lists that were lent are compared with what is stored.
-ghost use Rattle.std.specs.Prelude.{◌≤◌};
-
 use checks::Settings;
 use report::Report;
-use std::io;
+use std::{fmt, io};
 
 mod read;
 
-use read::number;
+use read::Words;
 
-// How many cases there are, how many of them come out as stored, the number of the first that does not (0 if there is none), and whether
-// nothing is left of the text.
+// How many cases there are, how many of them come out as stored, the number of the first that does not, and whether nothing is left of the text.
 #[derive(Clone, Copy)]
 struct Tally {
     cases: usize,
     equal: usize,
-    first: usize,
-    whole: bool,
+    first_different: Option<usize>,
+    is_whole: bool,
 }
 
-// What was compared is as stored, up to a place in the text.
-#[derive(Clone, Copy)]
-struct Place {
-    at: usize,
-    good: bool,
-}
-
-// Lengths of lists, and the place behind them in the text.
+// Lengths of lists.
 #[derive(Clone, Copy)]
 struct Lengths {
     work: usize,
@@ -36,327 +26,167 @@ struct Lengths {
     scan: usize,
     masks: usize,
     input: usize,
-    at: usize,
 }
 
-#[derive(Clone, Copy)]
-struct Asked {
-    settings: Settings,
-    at: usize,
+// The lists that a run is lent.
+#[derive(Drop)]
+struct Lists<'a> {
+    work: &'a mut [i32],
+    marks: &'a mut [i32],
+    scan: &'a mut [i64],
+    masks: &'a mut [u8],
 }
 
 // Reads a text of stored cases from standard input, runs them, and writes what comes of it. The zeros behind the text are white space.
 pub fn run_all<R: Input + Print>(rt: &R) -> io::Result<()> {
-    let mut text = [0u8; 262144];
+    let mut text = [0; 262144];
     intake::read_full(&mut rt.reader(), &mut text)?;
-    print(rt, replay(&text))
+    let tally = replay(&text);
+    print!(rt; "{tally}")
 }
 
 fn replay(text: &[u8]) -> Tally {
-    let head = number(text, 0);
-    let cases = head.size as usize;
-    let mut at = head.next;
-    let mut equal: usize = 0;
-    let mut first: usize = 0;
+    let mut words = Words::new(text);
+    let cases = words.size() as usize;
+    let mut equal = 0;
+    let mut first_different = None;
     for i in 0..cases {
-        let p = one(text, at);
-        at = p.at;
-        equal = counted(equal, p.good);
-        first = first_of(first, p.good, i);
+        if is_as_stored(&mut words) {
+            equal += 1;
+        } else {
+            first_different = first_different.or(Some(i + 1));
+        }
     }
-    let end = read::skip(text, at);
     Tally {
         cases,
         equal,
-        first,
-        whole: end == text.len(),
+        first_different,
+        is_whole: words.is_at_end(),
     }
 }
 
-fn counted(equal: usize, good: bool) -> usize {
-    if good {
-        if equal < 1000000 {
-            return equal + 1;
-        }
-    }
-    equal
-}
-
-fn first_of(first: usize, good: bool, i: usize) -> usize {
-    if good {
-        return first;
-    }
-    if first > 0 {
-        return first;
-    }
-    if i < 1000000 {
-        return i + 1;
-    }
-    i
-}
-
-// Runs the case that begins here. There is room for an input of 2,049 segments, which are too many.
-fn one(text: &[u8], at: usize) -> Place {
-    let asked = asked_at(text, at);
-    let l = lengths_at(text, asked.at);
-    let mut input = [0i32; 12294];
-    let k = least(l.input, 12294);
-    let p = with_input(text, asked.settings, l, &mut input[..k]);
-    Place {
-        at: p.at,
-        good: (k == l.input) & p.good,
-    }
-}
-
-fn with_input(text: &[u8], settings: Settings, l: Lengths, input: &mut [i32]) -> Place {
-    let next = load(text, l.at, input);
-    with_lists(text, next, settings, l, input)
-}
-
-fn least(a: usize, b: usize) -> usize
-    ensures { result ≤ b }
-{
-    if a < b {
-        return a;
-    }
-    b
-}
-
-fn asked_at(text: &[u8], at: usize) -> Asked {
-    let n = number(text, at);
-    let fill = number(text, n.next);
-    let rule = number(text, fill.next);
-    let budget = number(text, rule.next);
-    let settings = Settings {
-        n: n.size as usize,
-        fill: read::bits(fill.size),
-        rule: read::bits(rule.size),
-        budget: read::bits(budget.size),
+// Runs the next case. Every number in the lists is 7 before the run. Each is lent as long as the case says; one that there is no room for is
+// cut, and the case is not good. There is room for an input of 2,049 segments, which are too many.
+fn is_as_stored(words: &mut Words) -> bool {
+    let settings = settings(words);
+    let lengths = Lengths::read(words);
+    let mut input = [0; 12294];
+    let mut work = [7; 12288];
+    let mut marks = [7; 12288];
+    let mut scan = [7; 6144];
+    let mut masks = [7; 2048];
+    let fits = lengths.input <= input.len()
+        && lengths.work <= work.len()
+        && lengths.marks <= marks.len()
+        && lengths.scan <= scan.len()
+        && lengths.masks <= masks.len();
+    let input = front(&mut input, lengths.input);
+    load(words, input);
+    let mut lists = Lists {
+        work: front(&mut work, lengths.work),
+        marks: front(&mut marks, lengths.marks),
+        scan: front(&mut scan, lengths.scan),
+        masks: front(&mut masks, lengths.masks),
     };
-    Asked {
-        settings,
-        at: budget.next,
+    let report = lists.run(input, settings);
+    lists.are_as_stored(words, report) && fits
+}
+
+// The first numbers of the list, or all of them where there are not so many.
+fn front<T>(list: &mut [T], count: usize) -> &mut [T] {
+    let count = count.min(list.len());
+    &mut list[..count]
+}
+
+// The numbers that do not fit 32 bits are the greatest that does.
+fn settings(words: &mut Words) -> Settings {
+    Settings {
+        n: words.size() as usize,
+        fill: u32::try_from(words.size()).unwrap_or(u32::MAX),
+        rule: u32::try_from(words.size()).unwrap_or(u32::MAX),
+        budget: u32::try_from(words.size()).unwrap_or(u32::MAX),
     }
 }
 
-fn lengths_at(text: &[u8], at: usize) -> Lengths {
-    let work = number(text, at);
-    let marks = number(text, work.next);
-    let scan = number(text, marks.next);
-    let masks = number(text, scan.next);
-    let input = number(text, masks.next);
-    Lengths {
-        work: work.size as usize,
-        marks: marks.size as usize,
-        scan: scan.size as usize,
-        masks: masks.size as usize,
-        input: input.size as usize,
-        at: input.next,
+impl Lengths {
+    fn read(words: &mut Words) -> Self {
+        Self {
+            work: words.size() as usize,
+            marks: words.size() as usize,
+            scan: words.size() as usize,
+            masks: words.size() as usize,
+            input: words.size() as usize,
+        }
     }
 }
 
 // The next numbers of the text become those of the list.
-fn load(text: &[u8], at: usize, list: &mut [i32]) -> usize {
-    let mut next = at;
-    for i in 0..list.len() {
-        let x = number(text, next);
-        list[i] = read::signed(x);
-        next = x.next;
-    }
-    next
-}
-
-// Every number in the lists is 7 before the run. Each is lent as long as the case says; one that there is no room for is cut, and the case is not good.
-fn with_lists(text: &[u8], at: usize, settings: Settings, l: Lengths, input: &[i32]) -> Place {
-    let mut work = [7i32; 12288];
-    let mut marks = [7i32; 12288];
-    let mut scan = [7i64; 6144];
-    let mut masks = [7u8; 2048];
-    let a = least(l.work, 12288);
-    let b = least(l.marks, 12288);
-    let c = least(l.scan, 6144);
-    let d = least(l.masks, 2048);
-    let p = run_case(
-        text,
-        at,
-        settings,
-        input,
-        &mut work[..a],
-        &mut marks[..b],
-        &mut scan[..c],
-        &mut masks[..d],
-    );
-    Place {
-        at: p.at,
-        good: (a == l.work) & (b == l.marks) & (c == l.scan) & (d == l.masks) & p.good,
+fn load(words: &mut Words, list: &mut [i32]) {
+    for number in list.iter_mut() {
+        *number = words.number().unwrap_or_default().signed();
     }
 }
 
-fn run_case(
-    text: &[u8],
-    at: usize,
-    settings: Settings,
-    input: &[i32],
-    work: &mut [i32],
-    marks: &mut [i32],
-    scan: &mut [i64],
-    masks: &mut [u8],
-) -> Place {
-    let r = report::of(run::overlay(input, settings, work, marks, scan, masks));
-    judge(text, at, r, work, marks, scan, masks)
-}
-
-// The answer, m and looks, then the lists.
-fn judge(
-    text: &[u8],
-    at: usize,
-    r: Report,
-    work: &[i32],
-    marks: &[i32],
-    scan: &[i64],
-    masks: &[u8],
-) -> Place {
-    let answer = number(text, at);
-    let m = number(text, answer.next);
-    let looks = number(text, m.next);
-    let told = same(r.answer, answer) & same(r.segments, m) & same(r.looks, looks);
-    compare(text, looks.next, told, r, work, marks, scan, masks)
-}
-
-fn same(x: u64, stored: read::Word) -> bool {
-    if stored.good {
-        return x == stored.size;
+impl<'a> Lists<'a> {
+    fn run(&mut self, input: &[i32], settings: Settings) -> Report {
+        report::of(run::overlay(
+            input, settings, self.work, self.marks, self.scan, self.masks,
+        ))
     }
-    false
-}
 
-// The lists: 1 to 6 leave them as they were, 7 to 11 zero, 0 leaves the stored rows and bytes and then zeros.
-fn compare(
-    text: &[u8],
-    at: usize,
-    told: bool,
-    r: Report,
-    work: &[i32],
-    marks: &[i32],
-    scan: &[i64],
-    masks: &[u8],
-) -> Place {
-    let left = kept(r.answer);
-    let m = least(r.segments as usize, 2048);
-    let p = rows(text, at, work, masks, m);
-    let good = told
-        & p.good
-        & rest_i32(work, 6 * m, narrow(left))
-        & rest_i32(marks, 0, narrow(left))
-        & rest_i64(scan, 0, long(left))
-        & rest_u8(masks, m, left);
-    Place { at: p.at, good }
-}
-
-fn kept(answer: u64) -> u8 {
-    if answer == 0 {
-        return 0;
+    // The answer, m and looks, then the lists: 1 to 6 leave them as they were, 7 to 11 zero, 0 leaves the stored rows and bytes and then zeros.
+    fn are_as_stored(&self, words: &mut Words, report: Report) -> bool {
+        let answer = words.tell(report.answer);
+        let segments = words.tell(report.segments);
+        let looks = words.tell(report.looks);
+        let m = report.segments.min(2048) as usize;
+        let Some((rows, work)) = self.work.split_at_checked(6 * m) else {
+            return false;
+        };
+        let Some((bytes, masks)) = self.masks.split_at_checked(m) else {
+            return false;
+        };
+        let left: u8 = match report.answer {
+            1..=6 => 7,
+            _ => 0,
+        };
+        rows_are_stored(words, rows, bytes)
+            && answer
+            && segments
+            && looks
+            && is_all(work, i32::from(left))
+            && is_all(self.marks, i32::from(left))
+            && is_all(self.scan, i64::from(left))
+            && is_all(masks, left)
     }
-    if answer <= 6 {
-        return 7;
-    }
-    0
 }
 
-// The first m rows with their bytes are those of the text.
-fn rows(text: &[u8], at: usize, work: &[i32], masks: &[u8], m: usize) -> Place
-    requires { m ≤ 2048 }
-{
-    let mut next = at;
+// The rows with their bytes are the next ones of the text. All of them are read.
+fn rows_are_stored(words: &mut Words, rows: &[i32], bytes: &[u8]) -> bool {
     let mut good = true;
-    for i in 0..m {
-        let p = row(text, next, work, i);
-        let byte = number(text, p.at);
-        next = byte.next;
-        good = good & p.good & same(byte_at(masks, i), byte);
-    }
-    Place { at: next, good }
-}
-
-// 256, which no byte is, where the list has none.
-fn byte_at(masks: &[u8], i: usize) -> u64 {
-    if i < masks.len() {
-        return wide(masks[i]);
-    }
-    256
-}
-
-fn wide(b: u8) -> u64 {
-    b as u64
-}
-
-fn narrow(b: u8) -> i32 {
-    b as i32
-}
-
-fn long(b: u8) -> i64 {
-    b as i64
-}
-
-fn row(text: &[u8], at: usize, work: &[i32], i: usize) -> Place
-    requires { i ≤ 2048 }
-{
-    let mut next = at;
-    let mut good = true;
-    for j in 0..6 {
-        let x = number(text, next);
-        next = x.next;
-        good = good & x.good & holds(work, 6 * i + j, read::signed(x));
-    }
-    Place { at: next, good }
-}
-
-fn holds(work: &[i32], k: usize, z: i32) -> bool {
-    if k < work.len() {
-        return work[k] == z;
-    }
-    false
-}
-
-fn rest_i32(list: &[i32], from: usize, z: i32) -> bool {
-    let mut good = true;
-    for i in from..list.len() {
-        good = good & (list[i] == z);
+    for (row, &byte) in rows.chunks_exact(6).zip(bytes) {
+        for &number in row {
+            good &= words.number().is_some_and(|word| word.signed() == number);
+        }
+        good &= words.tell(u64::from(byte));
     }
     good
 }
 
-fn rest_i64(list: &[i64], from: usize, z: i64) -> bool {
-    let mut good = true;
-    for i in from..list.len() {
-        good = good & (list[i] == z);
-    }
-    good
+fn is_all<T: Copy + PartialEq>(list: &[T], left: T) -> bool {
+    list.iter().all(|&x| x == left)
 }
 
-fn rest_u8(list: &[u8], from: usize, z: u8) -> bool {
-    let mut good = true;
-    for i in from..list.len() {
-        good = good & (list[i] == z);
+impl fmt::Display for Tally {
+    // How many cases there are and how many are equal, in a line; and what is wrong, if anything is.
+    fn fmt<W: fmt::Write>(&self, f: &mut fmt::Formatter<W>) -> fmt::Result {
+        writeln!(f, "{} cases, {} equal", self.cases, self.equal)?;
+        if let Some(first) = self.first_different {
+            writeln!(f, "the first that differs: {first}")?;
+        }
+        if !self.is_whole {
+            writeln!(f, "the text goes on behind them")?;
+        }
+        Ok(())
     }
-    good
-}
-
-// How many cases there are and how many are equal, in a line; and what is wrong, if anything is.
-fn print(rt: &impl Print, t: Tally) -> io::Result<()> {
-    tell(rt, t.cases, b" cases, ")?;
-    tell(rt, t.equal, b" equal\n")?;
-    if t.first > 0 {
-        rt.write_all(b"the first that differs: ")?;
-        tell(rt, t.first, b"\n")?;
-    }
-    if !t.whole {
-        rt.write_all(b"the text goes on behind them\n")?;
-    }
-    Ok(())
-}
-
-fn tell(rt: &impl Print, n: usize, what: &[u8]) -> io::Result<()> {
-    print!(rt; "{n}")?;
-    rt.write_all(what)
 }

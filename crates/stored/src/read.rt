@@ -1,89 +1,78 @@
-// Whole numbers in a text, one after the other.
-ghost use Rattle.std.specs.Prelude.{◌≤◌};
+// Whole numbers in a text, one after the other, with white space between them: every byte up to the space is white space.
 
-// A number by its size and sign, and the place behind it; not good where there is none. One of more than eleven digits is cut there.
-#[derive(Clone, Copy)]
+// What is left of the text.
+#[derive(Drop)]
+pub(crate) struct Words<'a> {
+    rest: &'a [u8],
+}
+
+// A number by its size and sign.
+#[derive(Clone, Copy, Default)]
 pub(crate) struct Word {
     pub size: u64,
     pub minus: bool,
-    pub next: usize,
-    pub good: bool,
 }
 
-pub(crate) fn number(text: &[u8], at: usize) -> Word {
-    let start = skip(text, at);
-    if start < text.len() {
-        if text[start] == 45 {
-            return digits(text, start + 1, true);
+impl<'a> Words<'a> {
+    pub(crate) fn new(text: &'a [u8]) -> Self {
+        Self { rest: text }
+    }
+
+    // The next number, if one stands here. One of more than eleven digits is cut there.
+    pub(crate) fn number(&mut self) -> Option<Word> {
+        let blanks = self
+            .rest
+            .iter()
+            .position(|&b| b > b' ')
+            .unwrap_or(self.rest.len());
+        self.rest = &self.rest[blanks..];
+        let minus = self.rest.first() == Some(&b'-');
+        if minus {
+            self.rest = &self.rest[1..];
         }
+        let size = self.digits()?;
+        Some(Word { size, minus })
     }
-    digits(text, start, false)
-}
 
-// The first place from here on that is not white space.
-pub(crate) fn skip(text: &[u8], at: usize) -> usize {
-    let mut next = at;
-    while next < text.len() {
-        if text[next] > 32 {
-            return next;
+    fn digits(&mut self) -> Option<u64> {
+        let mut size = None;
+        while let [digit @ b'0'..=b'9', rest @ ..] = self.rest {
+            let front = size.unwrap_or(0);
+            if front > 9_999_999_999 {
+                break;
+            }
+            size = Some(front * 10 + u64::from(*digit - b'0'));
+            self.rest = rest;
         }
-        next += 1;
+        size
     }
-    next
-}
 
-fn digits(text: &[u8], at: usize, minus: bool) -> Word {
-    let mut size: u64 = 0;
-    let mut next = at;
-    let mut good = false;
-    while next < text.len() {
-        let d = text[next];
-        if d < 48 {
-            break;
-        }
-        if d > 57 {
-            break;
-        }
-        if size > 9999999999 {
-            break;
-        }
-        size = size * 10 + digit(d);
-        good = true;
-        next += 1;
+    // The next number by its size: 0 where none stands here.
+    pub(crate) fn size(&mut self) -> u64 {
+        self.number().unwrap_or_default().size
     }
-    Word {
-        size,
-        minus,
-        next,
-        good,
+
+    // Whether a number of this size stands here. It is read.
+    pub(crate) fn tell(&mut self, size: u64) -> bool {
+        self.number().is_some_and(|word| word.size == size)
+    }
+
+    pub(crate) fn is_at_end(&self) -> bool {
+        self.rest.iter().all(|&b| b <= b' ')
     }
 }
 
-fn digit(d: u8) -> u64
-    requires { 48 ≤ d }
-    ensures { result ≤ 255 }
-{
-    d as u64 - 48
-}
-
-// The number as 32 bits without a sign; one that is too big is the greatest.
-pub(crate) fn bits(size: u64) -> u32 {
-    if size > 4294967295 {
-        return 4294967295;
-    }
-    size as u32
-}
-
-// The number as 32 bits with a sign; one that is too far from 0 is 0.
-pub(crate) fn signed(x: Word) -> i32 {
-    if x.size > 2147483648 {
-        return 0;
-    }
-    if x.minus {
-        if x.size == 0 {
+impl Word {
+    // The number as 32 bits with a sign; one that is too far from 0 is 0. 2^31 is -2^31.
+    pub(crate) fn signed(self) -> i32 {
+        if self.size > 1 << 31 {
             return 0;
         }
-        return wire::signed((4294967296 - x.size) as u32);
+        let number = (self.size as u32).cast_signed();
+        if self.minus {
+            number.wrapping_neg()
+        } else {
+            number
+        }
     }
-    wire::signed(x.size as u32)
 }

@@ -7,56 +7,38 @@ ghost use Rattle.wire.specs.Asked.{decoded_as, decoded_list};
 
 use checks::Settings;
 
-#[derive(Clone, Copy)]
-pub enum Decoded {
-    // Whole: what is asked. Its segments are then the first rows of the input list.
-    Asked(Settings),
-    // Another version, too many segments, missing or extra bytes; or no room for the segments.
-    Broken,
-}
-
-// Takes apart what was read: one version byte 1, then big-endian four-byte numbers.
-pub fn decode(bytes: &[u8], input: &mut [i32]) -> Decoded
+// Takes apart what was read: one version byte 1, then big-endian four-byte numbers. What is asked, and its segments are then the first rows of
+// the input list; or nothing: another version, too many segments, missing or extra bytes, or no room for the segments.
+#[tactic(auto, unfolding(crate::specs::Asked::is_taken, crate::specs::Asked::decoded_as, crate::specs::Asked::decoded_list), using(crate::proofs::BytesLaws::at_front))]
+pub fn decode(bytes: &[u8], input: &mut [i32]) -> Option<Settings>
     ensures value { result ≡ decoded_as bytes.now (length input.old) }
     ensures input_after { input.new ≡ decoded_list bytes.now input.old }
 {
     if bytes.len() < 17 {
-        return Decoded::Broken;
+        return None;
     }
     let n = word(bytes, 1) as usize;
-    if bytes.len() != 17 + 24 * n {
-        return Decoded::Broken;
+    if bytes.len() != 17 + 24 * n || bytes[0] != 1 || n > 2048 || input.len() < 6 * n {
+        return None;
     }
-    if bytes[0] != 1 {
-        return Decoded::Broken;
-    }
-    if n > 2048 {
-        return Decoded::Broken;
-    }
-    if input.len() < 6 * n {
-        return Decoded::Broken;
-    }
-    let fill = word(bytes, 5);
-    let rule = word(bytes, 9);
-    let budget = word(bytes, 13);
-    numbers(bytes, 6 * n, input);
-    Decoded::Asked(Settings {
+    let settings = Settings {
         n,
-        fill,
-        rule,
-        budget,
-    })
+        fill: word(bytes, 5),
+        rule: word(bytes, 9),
+        budget: word(bytes, 13),
+    };
+    numbers(bytes, &mut input[..6 * n]);
+    Some(settings)
 }
 
-// The first `count` numbers of the input become those of the bytes from place 17 on.
-fn numbers(bytes: &[u8], count: usize, input: &mut [i32])
-    requires count_in_bounds { 17 + 4 * count ≤ length bytes.now }
-    requires count_in_bounds_2 { count ≤ length input.old }
-    ensures { input.new ≡ sets input.old 0 (numbers_from bytes.now 17 count) }
+// The input becomes the numbers of the bytes from place 17 on.
+#[tactic(auto, unfolding(crate::specs::Bytes::numbers_from))]
+fn numbers(bytes: &[u8], input: &mut [i32])
+    requires { 17 + 4 * length input.old ≤ length bytes.now }
+    ensures { input.new ≡ numbers_from bytes.now 17 (length input.old) }
 {
-    for i in 0..count {
-        let z = signed(word(bytes, 17 + 4 * i));
-        input[i] = z;
+    for (i, number) in input.iter_mut().enumerate() {
+        *number = signed(word(bytes, 17 + 4 * i));
     }
 }
 
@@ -65,20 +47,13 @@ fn word(bytes: &[u8], k: usize) -> u32
     requires { k + 4 ≤ length bytes.now }
     ensures { result ≡ word_at bytes.now k }
 {
-    let a = bytes[k] as u32;
-    let b = bytes[k + 1] as u32;
-    let c = bytes[k + 2] as u32;
-    let d = bytes[k + 3] as u32;
-    ((a * 256 + b) * 256 + c) * 256 + d
+    u32::from_be_bytes([bytes[k], bytes[k + 1], bytes[k + 2], bytes[k + 3]])
 }
 
 // The same bits in two's complement.
+#[tactic(auto, unfolding(crate::specs::Bytes::signed))]
 pub fn signed(u: u32) -> i32
     ensures { result ≡ signed_of u }
 {
-    if u < 2147483648 {
-        u as i32
-    } else {
-        -2147483648 + (u - 2147483648) as i32
-    }
+    u.cast_signed()
 }

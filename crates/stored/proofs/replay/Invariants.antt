@@ -1,9 +1,6 @@
--- `replay`: case after case, as many as the text says.
-use Prim.Native.Nat.{◌-◌, ◌≤◌}
+-- No more cases are equal than were run.
+use Rattle.std.proofs.Common.{◌≤◌}
 use Rattle.stored.proofs.replay.Given as goal
 
 abbrev pub invariant-loop-i : goal.invariant-loop-i
-invariant-loop-i l = l.i ≤ l.i
-
-abbrev pub decreases-loop-i : goal.decreases-loop-i
-decreases-loop-i l = l.cases - l.i
+invariant-loop-i l = l.equal ≤ l.i
