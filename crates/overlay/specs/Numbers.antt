@@ -1,5 +1,7 @@
 -- Document 01's number, m and looks of each answer ("Input and answer"): every refusal returns zero segments and zero looks.
 use Rattle.std.specs.Prelude.{Result, Ok, Err, ℕ}
+use Rattle.checks.specs.declared.Fault.{Fault}
+use Rattle.checks.specs.declared.Fault.TheVariants as fault
 use Rattle.overlay.specs.declared.answer.Settled.{Settled}
 use Rattle.overlay.specs.declared.answer.Refusal.{Refusal}
 use Rattle.overlay.specs.declared.answer.Refusal.TheVariants.{Short, BadSettings, OffGrid, NoLength, BadCount, Open, MarksFull, WorkFull, TooBig, Unsettled, ScanFull}
@@ -27,6 +29,15 @@ number_of WorkFull = 8
 number_of TooBig = 9
 number_of Unsettled = 10
 number_of ScanFull = 11
+
+-- the refusal of a fault of the input
+abbrev pub refusal_of : Fault → Refusal
+refusal_of fault.Short = Short
+refusal_of fault.BadSettings = BadSettings
+refusal_of fault.OffGrid = OffGrid
+refusal_of fault.NoLength = NoLength
+refusal_of fault.BadCount = BadCount
+refusal_of fault.Open = Open
 
 abbrev pub Answer : Type 0
 Answer = Result Settled Refusal

@@ -7,11 +7,10 @@ use Rattle.geom.specs.Rows.{segments}
 use Rattle.scan.specs.Masks.{bytes, crowded}
 use Rattle.checks.specs.declared.Settings.{Settings}
 use Rattle.checks.specs.declared.Fault.{Fault}
-use Rattle.checks.specs.declared.Fault.TheVariants as fault
 use Rattle.checks.specs.Checks.{fault_of}
 use Rattle.overlay.specs.declared.answer.Refusal.{Refusal}
-use Rattle.overlay.specs.declared.answer.Refusal.TheVariants.{Short, BadSettings, OffGrid, NoLength, BadCount, Open, ScanFull}
-use Rattle.overlay.specs.Numbers.{Told, told, answer0}
+use Rattle.overlay.specs.declared.answer.Refusal.TheVariants.{ScanFull}
+use Rattle.overlay.specs.Numbers.{Told, told, answer0, refusal_of}
 use Rattle.overlay.specs.Looks.{Ran, settled, refused, ran}
 
 -- the lists that are lent to be written
@@ -63,12 +62,7 @@ swept s l (settled L looks) = let r = finished s l L looks in cond (crowded (sca
 -- a fault of the input, or else what the run comes to
 unfoldable pub unless : Result (Unit {0}) Fault → Lent → Outcome → Outcome
 unless (Ok tt) l r = r
-unless (Err fault.Short) l r = unchanged l Short
-unless (Err fault.BadSettings) l r = unchanged l BadSettings
-unless (Err fault.OffGrid) l r = unchanged l OffGrid
-unless (Err fault.NoLength) l r = unchanged l NoLength
-unless (Err fault.BadCount) l r = unchanged l BadCount
-unless (Err fault.Open) l r = unchanged l Open
+unless (Err f) l r = unchanged l (refusal_of f)
 
 -- 1 to 6 in order, then the run
 unfoldable pub outcome : List ℤ → Settings → Lent → Outcome

@@ -1,6 +1,8 @@
 // What a run answers.
 ghost use Rattle.std.specs.Prelude.{◌≡◌};
-ghost use Rattle.overlay.specs.Numbers.{number_of};
+ghost use Rattle.overlay.specs.Numbers.{number_of, refusal_of};
+
+use checks::Fault;
 
 // 0: no two edges meet except at ends of both. So many segments, after so many looks.
 #[derive(Clone, Copy, PartialEq, Eq)]
@@ -43,5 +45,21 @@ impl Refusal {
         ensures { result ≡ number_of self }
     {
         self as u64
+    }
+}
+
+// A fault of the input is the refusal of the same name.
+impl From<Fault> for Refusal {
+    ghost from_gives = { λ f r. r ≡ refusal_of f };
+
+    fn from(fault: Fault) -> Refusal {
+        match fault {
+            Fault::Short => Refusal::Short,
+            Fault::BadSettings => Refusal::BadSettings,
+            Fault::OffGrid => Refusal::OffGrid,
+            Fault::NoLength => Refusal::NoLength,
+            Fault::BadCount => Refusal::BadCount,
+            Fault::Open => Refusal::Open,
+        }
     }
 }

@@ -12,10 +12,11 @@ ghost use Rattle.settle.specs.Kept.{Kept};
 ghost use Rattle.settle.specs.Step.{came_to};
 ghost use Rattle.ending.specs.Lent.{lent, ended};
 
-use checks::{Fault, Settings};
+use checks::Settings;
 use overlay::answer::{Answer, Refusal};
 
 // The overlay of the first n segments of the input, which is never written. 1 to 6 change nothing, 7 to 11 set every other list to zero.
+#[tactic(auto, unfolding(overlay::specs::Outcome::outcome, overlay::specs::Outcome::unless))]
 pub fn overlay(
     input: &[i32],
     settings: Settings,
@@ -26,15 +27,8 @@ pub fn overlay(
 ) -> Answer
     ensures { ended result work.new marks.new scan.new masks.new ≡ outcome input.now settings (lent work.old marks.old scan.old masks.old) }
 {
-    match checks::check(input, settings, work.len(), masks.len()) {
-        Ok(()) => run(input, settings, work, marks, scan, masks),
-        Err(Fault::Short) => Err(Refusal::Short),
-        Err(Fault::BadSettings) => Err(Refusal::BadSettings),
-        Err(Fault::OffGrid) => Err(Refusal::OffGrid),
-        Err(Fault::NoLength) => Err(Refusal::NoLength),
-        Err(Fault::BadCount) => Err(Refusal::BadCount),
-        Err(Fault::Open) => Err(Refusal::Open),
-    }
+    checks::check(input, settings, work.len(), masks.len())?;
+    run(input, settings, work, marks, scan, masks)
 }
 
 // The run of an input that passed the checks.
