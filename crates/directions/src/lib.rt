@@ -13,9 +13,5 @@ pub fn forward(v: Segment) -> Segment
     requires countable_2 { Countable v.clip }
     ensures { result ≡ forward_of v }
 {
-    if v.b < v.a {
-        geom::turned(v)
-    } else {
-        v
-    }
+    if v.b < v.a { geom::turned(v) } else { v }
 }

@@ -7,6 +7,7 @@ use limbs::{DivisionError, Quotient, Two};
 
 // One digit of a long division. The guess from the divisor's upper half is never below the digit and at most 2 above it;
 // where it is above, what it takes too much says by how far.
+// By halves of a word, and not by 128 bits: the edit guess_one_too_large plants its mistake in the guess.
 fn digit(h: u64, l: u64, d: u64) -> Quotient
     requires { (2 ^ 63 ≤ d) × (h < d) × (l < 2 ^ 32) }
     ensures { result ≡ quotient_of (h * 2 ^ 32 + l) d }

@@ -4,7 +4,9 @@ ghost use Rattle.std.specs.Prelude.{◌≡◌};
 ghost use Rattle.geom.specs.Limits.{work_room, mark_room, scan_room};
 
 const SEGMENT_LIMIT: usize = 2048;
+
 const MARK_LIMIT: usize = 65536;
+
 const SCAN_LIMIT: usize = 2048;
 
 // Segments in a work list.

@@ -4,6 +4,7 @@ ghost use Rattle.std.specs.Prelude.{◌≡◌, ◌+◌, ◌*◌, ◌/◌, ◌^�
 ghost use Rattle.limbs.specs.Limbs.{rounded_of};
 
 // One digit of a long division, where it is below 2^31: the guess from the divisor's upper half is at most 1 above it.
+// By halves of a word, and not by 128 bits: the edit exact_guess_counts_as_too_large plants its mistake in the guess.
 fn short_digit(h: u64, l: u64, d: u64) -> u64
     requires { (2 ^ 63 ≤ d) × (2 * h < d) × (l < 2 ^ 32) }
     ensures { result ≡ (h * 2 ^ 32 + l) / d }
