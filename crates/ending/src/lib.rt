@@ -47,9 +47,9 @@ pub fn finish(
 {
     let fill = settings.fill;
     let rule = settings.rule;
-    let build::sweep::Filled::Done = build::sweep::fill(work, k, fill, rule, scan, masks) else {
+    if build::sweep::fill(work, k, fill, rule, scan, masks).is_err() {
         return refuse(Answer::ScanFull, work, marks, scan, masks);
-    };
+    }
     steps::clear_behind(work, k);
     lists::clear_i32(marks);
     Answer::Settled(k, looks)
