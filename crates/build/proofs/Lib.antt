@@ -1,5 +1,5 @@
 pub mod Order
 pub mod Node
 pub mod Sweeping
-pub mod Filling
 pub mod FillLaws
+pub mod Filling

@@ -20,6 +20,8 @@ use Rattle.geom.specs.Rows.{segments}
 use Rattle.edges.specs.Below.{live}
 use Rattle.scan.specs.Masks.{byte_of, bytes, crowded_from, crowded}
 use Rattle.scan.specs.Scan.{entries, segment_at, entries_from, EntryOf, live_at, sums_of, byte_by, arrivals, Holds}
+use Rattle.std.specs.Prelude.{Ok, Err}
+use Rattle.build.specs.declared.sweep.FillError.TheVariants.{ScanFull}
 use Rattle.build.specs.Sweep.{bytes_by, ordered, NodeEnd, Swept}
 use Rattle.scan.proofs.Entries.{all_entry}
 use Rattle.build.proofs.Order.{in_order}
@@ -104,12 +106,13 @@ module _ (fill rule room : ℕ) (work : List ℤ) (n : ℕ) (sorted : Bool) wher
         entries_now h = rw (rows_now h) (all_map (λ t m. m.1) (all_keep (live_at work (at i)) (all_entry work n)))
 
         -- it is crowded
-        pub swept-crowded : room < l → Swept fill rule room L xs₀ ms₀ true ys ms
+        pub swept-crowded : room < l → Swept fill rule room L xs₀ ms₀ (Err ScanFull) ys ms
         swept-crowded h =
             let q = number i (omega arith) d.after in
             let t = crowded-here i (omega (arith, d.after, d.within)) (lt-ltb room (length (keep (live (at i)) L)) (omega arith)) in
             record {
               answer = sym (sym g.free ∙ t);
+              error = refl;
               bytes_are = λ e. let z : ◌≡◌ {A = ℕ} 0 1 = cc in absurd (omega arith);
               scan_kept = a.same_length ∙ g.scan_kept;
               masks_kept = g.masks_kept;
@@ -165,12 +168,13 @@ module _ (fill rule room : ℕ) (work : List ℤ) (n : ℕ) (sorted : Bool) wher
             all = ap (map B) parts ∙ map-append B (rows_from segments work i (r - i)) R ∙ ap (λ (v : List ℕ). v ++ map B R) (sym (rows-map work (λ v. byte_by fill rule (sums_of work v (rows_from entries ys 0 l)) v) B i (r - i) same))
 
     -- ---- the end
-    pub swept : n ≤ i → Swept fill rule room L xs₀ ms₀ false xs ms
+    pub swept : n ≤ i → Swept fill rule room L xs₀ ms₀ (Ok tt) xs ms
     unfolding crowded_from
     swept h =
         let e : rows_from segments work i (n - i) ≡ [] = rows-done segments work n i h in
         record {
           answer = sym (sym g.free ∙ ap (crowded_from room L) e);
+          error = tt;
           bytes_are = λ f. sym (ap (λ (K : List Segment). sets ms i (map (byte_of fill rule L) K)) e) ∙ g.to_come_lem;
           scan_kept = g.scan_kept;
           masks_kept = g.masks_kept;

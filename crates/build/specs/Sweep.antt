@@ -1,10 +1,12 @@
 -- The sweep over nodes ("Masks"): a list in order, where a node ends, and the bytes that are written there.
-use Rattle.std.specs.Prelude.{◌≡◌, Bool, true, false, not, ◌&&◌, List, [], ◌∷◌, map, ℕ, ◌<◌, ◌≤◌, ℤ, length}
+use Rattle.std.specs.Prelude.{◌≡◌, Bool, true, false, Result, ⊤, is_err, IsOkUnless, not, ◌&&◌, List, [], ◌∷◌, map, ℕ, ◌<◌, ◌≤◌, ℤ, length}
 use Rattle.std.proofs.lemmas.List.Edits.{sets}
 use Rattle.geom.specs.declared.Segment.{Segment}
 use Rattle.geom.specs.Plane.{before, same_point}
 use Rattle.scan.specs.declared.list.Entry.{Entry}
 use Rattle.scan.specs.declared.nodes.Node.{Node}
+use Rattle.build.specs.declared.sweep.FillError.{FillError}
+use Rattle.build.specs.declared.sweep.FillError.TheVariants.{ScanFull}
 use Rattle.scan.specs.Masks.{bytes, crowded}
 use Rattle.scan.specs.Scan.{segment_at, sums_of, Reached, byte_by}
 
@@ -30,9 +32,10 @@ pub record Ready (work scan : List ℤ) (node : Node) (i e : ℕ) : Type 0 where
 abbrev pub bytes_by : ℕ → ℕ → List ℤ → List Entry → List Segment → List ℕ
 bytes_by fill rule work l K = map (λ e. byte_by fill rule (sums_of work e l) e) K
 
--- what the sweep promises: whether some node is crowded, and the bytes where none is
-pub record Swept (fill rule room : ℕ) (L : List Segment) (xs : List ℤ) (ms : List ℕ) (r : Bool) (ys : List ℤ) (ns : List ℕ) : Type 0 where
-  pub answer : r ≡ crowded room L
-  pub bytes_are : r ≡ false → ns ≡ sets ms 0 (bytes fill rule L)
+-- what the sweep promises: 11 where some node is crowded, and the bytes where none is
+pub record Swept (fill rule room : ℕ) (L : List Segment) (xs : List ℤ) (ms : List ℕ) (r : Result ⊤ FillError) (ys : List ℤ) (ns : List ℕ) : Type 0 where
+  pub answer : is_err r ≡ crowded room L
+  pub error : IsOkUnless r ScanFull
+  pub bytes_are : is_err r ≡ false → ns ≡ sets ms 0 (bytes fill rule L)
   pub scan_kept : length ys ≡ length xs
   pub masks_kept : length ns ≡ length ms

@@ -1,26 +1,27 @@
 // Refusals 1 and 2; 3 to 5 are those of the checks.
 ghost use Rattle.std.specs.Prelude.{◌≡◌};
-ghost use Rattle.build.specs.Fill.{is_short, is_bad};
+ghost use Rattle.build.specs.Fill.{is_short, RulesOf};
+
+use crate::sweep::FillError;
+use fills::FillRule;
+use masks::Rules;
+use rules::OverlayRule;
 
 // 1, from the lengths of the work and mask lists.
+#[tactic(auto, unfolding(crate::specs::Fill::is_short))]
 pub(crate) fn is_short(n: usize, work: usize, masks: usize) -> bool
     ensures { result ≡ is_short n work masks }
 {
-    if 2048 < n {
-        return true;
-    }
-    if work < 6 * n {
-        return true;
-    }
-    masks < n
+    2048 < n || work < 6 * n || masks < n
 }
 
-// 2
-pub(crate) fn is_bad(fill: u32, rule: u32) -> bool
-    ensures { result ≡ is_bad fill rule }
+// The rules of these numbers, or 2.
+#[tactic(auto, unfolding(crate::specs::Fill::is_bad))]
+pub(crate) fn rules(fill: u32, rule: u32) -> Result<Rules, FillError>
+    ensures { RulesOf fill rule result }
 {
-    if 3 < fill {
-        return true;
-    }
-    6 < rule
+    Ok(Rules {
+        fill: FillRule::try_from(fill)?,
+        overlay: OverlayRule::try_from(rule)?,
+    })
 }

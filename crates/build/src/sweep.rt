@@ -6,15 +6,17 @@ ghost use Rattle.whole.specs.Sum.{All};
 ghost use Rattle.geom.specs.Limits.{scan_room};
 ghost use Rattle.geom.specs.Rows.{segments};
 ghost use Rattle.scan.specs.Scan.{entries, EntryOf, OnGrids};
+ghost use Rattle.build.specs.declared.sweep.FillError.TheVariants.{BadRule};
 ghost use Rattle.build.specs.Sweep.{ordered, NodeEnd, Ready, bytes_by, Swept};
+ghost use Rattle.masks.specs.Rules.{fill_number, overlay_number};
 ghost use Rattle.build.specs.Fill.{fill_says, fill_said};
 
+use masks::Rules;
 use scan::nodes::Node;
 
-#[derive(Clone, Copy)]
-pub enum Filled {
-    // 0: the masks hold the bytes.
-    Done,
+// Why the masks hold no bytes.
+#[derive(Clone, Copy, Debug, PartialEq, Eq)]
+pub enum FillError {
     // 1: n is over the limit, or a list is too short for n.
     Short,
     // 2: a rule number is out of range.
@@ -29,6 +31,22 @@ pub enum Filled {
     ScanFull,
 }
 
+impl From<fills::BadRule> for FillError {
+    ghost from_gives = { λ _ e. e ≡ BadRule };
+
+    fn from(_: fills::BadRule) -> FillError {
+        FillError::BadRule
+    }
+}
+
+impl From<rules::BadRule> for FillError {
+    ghost from_gives = { λ _ e. e ≡ BadRule };
+
+    fn from(_: rules::BadRule) -> FillError {
+        FillError::BadRule
+    }
+}
+
 // The byte of each of the n segments, for any list that is not refused, in order or not, settled or not.
 pub fn fill(
     work: &[i32],
@@ -37,40 +55,42 @@ pub fn fill(
     rule: u32,
     scan: &mut [i64],
     masks: &mut [u8],
-) -> Filled
+) -> Result<(), FillError>
     ensures { fill_says result scan.new masks.new ≡ fill_said work.now n fill rule scan.old masks.old }
 {
     if crate::check::is_short(n, work.len(), masks.len()) {
-        return Filled::Short;
+        return Err(FillError::Short);
     }
-    if crate::check::is_bad(fill, rule) {
-        return Filled::BadRule;
-    }
+    let rules = crate::check::rules(fill, rule)?;
     if faults::some_row(work, n, faults::is_off) {
-        return Filled::OffGrid;
+        return Err(FillError::OffGrid);
     }
     if faults::some_row(work, n, faults::is_point) {
-        return Filled::NoLength;
+        return Err(FillError::NoLength);
     }
     if faults::some_row(work, n, faults::has_least) {
-        return Filled::BadCount;
+        return Err(FillError::BadCount);
     }
-    lists::clear_u8(masks);
-    let full = sweep(work, n, fill, rule, scan, masks);
-    lists::clear_i64(scan);
-    if full {
-        lists::clear_u8(masks);
-        return Filled::ScanFull;
+    masks.fill(0);
+    let swept = sweep(work, n, rules, scan, masks);
+    scan.fill(0);
+    if swept.is_err() {
+        masks.fill(0);
     }
-    Filled::Done
+    swept
 }
 
-// Whether more are live after some node than there is room for. If not, the bytes.
-fn sweep(work: &[i32], n: usize, fill: u32, rule: u32, scan: &mut [i64], masks: &mut [u8]) -> bool
+// The bytes, or 11: more are live after some node than there is room for.
+fn sweep(
+    work: &[i32],
+    n: usize,
+    rules: Rules,
+    scan: &mut [i64],
+    masks: &mut [u8],
+) -> Result<(), FillError>
     requires n_in_bounds { (6 * n ≤ length work.now) × (n ≤ 2048) × (n ≤ length masks.old) }
     requires on_grids { OnGrids work.now n }
-    requires rule_bound { rule < 7 }
-    ensures { Swept fill rule (scan_room (length scan.old)) (rows_from segments work.now 0 n) scan.old masks.old result scan.new masks.new }
+    ensures { Swept (fill_number rules) (overlay_number rules) (scan_room (length scan.old)) (rows_from segments work.now 0 n) scan.old masks.old result scan.new masks.new }
 {
     let room = rooms::scan_room(scan.len());
     let sorted = in_order(work, n);
@@ -82,12 +102,12 @@ fn sweep(work: &[i32], n: usize, fill: u32, rule: u32, scan: &mut [i64], masks: 
         let node = scan::nodes::arrive(work, n, scan, room, used, i, e, v.a, sorted);
         used = node.used;
         if room < used {
-            return true;
+            return Err(FillError::ScanFull);
         }
-        write_bytes(work, n, fill, rule, scan, node, masks, i, e);
+        write_bytes(work, n, rules, scan, node, masks, i, e);
         i = e;
     }
-    false
+    Ok(())
 }
 
 // Whether no segment starts before the one that stands before it: a run's list never does.
@@ -98,7 +118,7 @@ fn in_order(work: &[i32], n: usize) -> bool
     for i in 1..n {
         let u = places::read(work, i - 1);
         let v = places::read(work, i);
-        if order::before(v.a, u.a) {
+        if v.a < u.a {
             return false;
         }
     }
@@ -114,10 +134,9 @@ fn node_end(work: &[i32], n: usize, i: usize) -> usize
     let v = places::read(work, i);
     for j in i + 1..n {
         let t = places::read(work, j);
-        if order::same_point(v.a, t.a) {
-            continue;
+        if v.a != t.a {
+            return j;
         }
-        return j;
     }
     n
 }
@@ -126,8 +145,7 @@ fn node_end(work: &[i32], n: usize, i: usize) -> usize
 fn write_bytes(
     work: &[i32],
     n: usize,
-    fill: u32,
-    rule: u32,
+    rules: Rules,
     scan: &[i64],
     node: Node,
     masks: &mut [u8],
@@ -136,17 +154,15 @@ fn write_bytes(
 )
     requires n_in_bounds { 6 * n ≤ length work.now }
     requires on_grids { OnGrids work.now n }
-    requires rule_bound { rule < 7 }
     requires used_in_bounds { (3 * node.used ≤ length scan.now) × (node.used ≤ 2048) }
     requires all { All (EntryOf work.now n) (rows_from entries scan.now 0 node.used) }
     requires ready { Ready work.now scan.now node i e }
     requires i_le_e { (i ≤ e) × (e ≤ n) × (n ≤ length masks.old) }
-    ensures { masks.new ≡ sets masks.old i (bytes_by fill rule work.now (rows_from entries scan.now 0 node.used) (rows_from segments work.now i (e - i))) }
+    ensures { masks.new ≡ sets masks.old i (bytes_by (fill_number rules) (overlay_number rules) work.now (rows_from entries scan.now 0 node.used) (rows_from segments work.now i (e - i))) }
 {
     for k in i..e {
         let v = places::read(work, k);
         let s = scan::sums::sums_below(work, n, scan, node.used, node.known, node.sums, v);
-        let byte = masks::byte(fill, rule, s, v);
-        masks[k] = byte;
+        masks[k] = rules.byte(s, v);
     }
 }

@@ -9,10 +9,10 @@ ghost use Rattle.segm.specs.Merge.{merge_answer, merge_list};
 ghost use Rattle.split.specs.Look.{look as marks_of};
 ghost use Rattle.split.specs.Looked.{look_answer};
 ghost use Rattle.pairwise.specs.Listed.{look_list};
-ghost use Rattle.build.specs.Fill.{said, number_of, fill_said};
+ghost use Rattle.build.specs.Fill.{said, answer_of, fill_said};
 ghost use Rattle.cabi_parts.specs.Parts.{rows_in, marks_in};
 
-use build::sweep::Filled;
+use build::sweep::FillError;
 use segm::{MergeError, Merged};
 use split::answer::Looked;
 
@@ -79,16 +79,16 @@ fn marks_in(a: Looked) -> usize
     }
 }
 
-fn number(a: Filled) -> u64
-    ensures { result ≡ number_of a }
+fn number(a: Result<(), FillError>) -> u64
+    ensures { result ≡ answer_of a }
 {
     match a {
-        Filled::Done => 0,
-        Filled::Short => 1,
-        Filled::BadRule => 2,
-        Filled::OffGrid => 3,
-        Filled::NoLength => 4,
-        Filled::BadCount => 5,
-        Filled::ScanFull => 11,
+        Ok(()) => 0,
+        Err(FillError::Short) => 1,
+        Err(FillError::BadRule) => 2,
+        Err(FillError::OffGrid) => 3,
+        Err(FillError::NoLength) => 4,
+        Err(FillError::BadCount) => 5,
+        Err(FillError::ScanFull) => 11,
     }
 }

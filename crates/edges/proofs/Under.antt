@@ -9,8 +9,8 @@ use Rattle.whole.specs.Ring.{reads}
 use Rattle.whole.proofs.RingLaws.{ring}
 use Rattle.whole.specs.Sign.{Tri, less, same as level, more}
 use Rattle.whole.proofs.SignLaws.{tri}
-use Rattle.whole.specs.Test.{is_false, tests, lt-true, lt_gt, le-true, le-false}
-use Rattle.whole.proofs.TestLaws.{of_true, and_l, and_r, lt_of, lt_not, eq_z_is, eq_z-true}
+use Rattle.whole.specs.Test.{is_false, tests, lt-true, lt_gt, le-true}
+use Rattle.whole.proofs.TestLaws.{of_true, and_l, and_r, lt_not, eq_z_is, eq_z-true}
 use Rattle.geom.specs.declared.Segment.{Segment}
 use Rattle.geom.specs.Plane.{turn, against, upright, sameZ, before, by_x}
 use Rattle.geom.specs.Tests.{when_false}
@@ -28,10 +28,6 @@ not_true false e = refl
 -- ---- alive
 
 module _ (x : ℤ) (t : Segment) where
-  pub unborn : lt_z x t.a.x.0 ≡ true → alive x t ≡ false
-  unfolding alive
-  unborn q = rw (le-false (lt_of q))
-
   pub begun : lt_z x t.a.x.0 ≡ false → alive x t ≡ lt_z x t.b.x.0
   unfolding alive
   begun q = rw (le-true (lt_not q))
@@ -39,22 +35,22 @@ module _ (x : ℤ) (t : Segment) where
 -- ---- under
 
 module _ (t e : Segment) where
-  over : pos 0 <ℤ against t e.a → under t e ≡ true
+  pub lies_under : pos 0 <ℤ against t e.a → under t e ≡ true
   unfolding under lower
-  over k = same (upright e) (simp tests) (simp tests)
+  lies_under k = same (upright e) (simp tests) (simp tests)
 
-  short_of : against t e.a <ℤ pos 0 → under t e ≡ false
+  pub lies_over : against t e.a <ℤ pos 0 → under t e ≡ false
   unfolding under lower
-  short_of k = same (upright e) (simp tests) (simp tests)
+  lies_over k = same (upright e) (simp tests) (simp tests)
 
   -- e.a does not lie on t's line
   pub by_height : sameZ (against t e.a) (pos 0) ≡ false → under t e ≡ lt_z (pos 0) (against t e.a)
   by_height q = go (tri (against t e.a) (pos 0))
     where
       go : Tri (against t e.a) (pos 0) → under t e ≡ lt_z (pos 0) (against t e.a)
-      go (less h) = short_of h ∙ sym (lt_gt h)
+      go (less h) = lies_over h ∙ sym (lt_gt h)
       go (level h) = absurd (of_true (sym q ∙ eq_z-true h))
-      go (more h) = over h ∙ sym (lt-true h)
+      go (more h) = lies_under h ∙ sym (lt-true h)
 
   -- e.a lies on t's line
   turns : lean t e +ℤ against t e.a ≡ against t e.b

@@ -1,10 +1,11 @@
 -- Which edges are live at a node, and which lie below an edge ("Masks"; heights by cross products, "Points off the grid").
 use Rattle.std.specs.Prelude.{Bool, true, not, cond, ◌&&◌, ◌||◌, ℤ, pos, ◌-ℤ◌, ◌*ℤ◌}
 use Rattle.std.specs.Int.Signed.{le_z, lt_z}
+use Rattle.std.specs.Ordering.{int_cmp}
+use Rattle.std.specs.declared.cmp.Ordering.{Ordering}
 use Rattle.geom.specs.declared.Point.{Point}
 use Rattle.geom.specs.declared.Segment.{Segment}
 use Rattle.geom.specs.Plane.{before, sameZ, upright, against}
-use Rattle.edges.specs.declared.Height.{Height}
 
 -- t is not upright and x lies in its range: t.a.x <= x < t.b.x
 unfoldable pub alive : ℤ → Segment → Bool
@@ -32,9 +33,17 @@ live p t = not (before p t.a) && lt_z p.x.0 t.b.x.0
 
 -- ---- by turns
 
--- whether p lies over t's line, and whether on it
-abbrev pub height_at : Segment → Point → Height
-height_at t p = record { over = lt_z (pos 0) (against t p); level = sameZ (against t p) (pos 0) }
+-- whether p lies over t's line
+abbrev pub over : Segment → Point → Bool
+over t p = lt_z (pos 0) (against t p)
+
+-- and whether on it
+abbrev pub level : Segment → Point → Bool
+level t p = sameZ (against t p) (pos 0)
+
+-- both at once: how the turn compares with 0
+abbrev pub height_at : Segment → Point → Ordering
+height_at t p = int_cmp (against t p) (pos 0)
 
 -- whether t lies under e, where e.a lies on t's line
 abbrev pub under_at : Segment → Segment → Bool

@@ -40,10 +40,10 @@ pub fn finish(
     let k = settled.segments;
     let fill = settings.fill;
     let rule = settings.rule;
-    let build::sweep::Filled::Done = build::sweep::fill(work, k, fill, rule, scan, masks) else {
+    if build::sweep::fill(work, k, fill, rule, scan, masks).is_err() {
         clear(work, marks, scan, masks);
         return Err(Refusal::ScanFull);
-    };
+    }
     steps::clear_behind(work, k);
     marks.fill(0);
     Ok(settled)

@@ -25,6 +25,9 @@ use Rattle.scan.specs.Scan.{entries, named, EntryOf, amount, part, no_sums, add_
 pub pair_eq : {r s : Sums} → ((k : Side) → part k r ≡ part k s) → r ≡ s
 pair_eq h = ap₂ (λ (a b : ℤ). record { subject = a; clip = b }) (h subject) (h clip)
 
+pub none_is : {s : Sums} → (s.subject ≡ pos 0) × (s.clip ≡ pos 0) → s ≡ no_sums
+none_is h = ap₂ (λ (a b : ℤ). record { subject = a; clip = b }) h.0 h.1
+
 pub near_32 : {z : ℤ} → SFits w32 z → nat_abs z ≤ 2147483648
 near_32 {z = pos n} h = omega (arith, h.sfits)
 near_32 {z = negsuc n} h = omega (arith, h.sfits)

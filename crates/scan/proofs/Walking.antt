@@ -9,6 +9,8 @@ use native.Mathlib.Omega.{arith}
 use lib.IntN.{ℤ, nat_abs}
 use lib.ListN.{length, take, length-append}
 use lib.Seq.{take_at}
+use Rattle.std.specs.Ordering.{is_gt, is_eq}
+use Rattle.std.specs.declared.cmp.Ordering.{Ordering}
 use Rattle.whole.specs.Kind.{row_at, put_row, rows_from}
 use Rattle.whole.proofs.KindLaws.{rows_step, rows-done, rows_append, length-rows}
 use Rattle.whole.specs.PassLaws.{Going, going_start}
@@ -19,9 +21,9 @@ use Rattle.whole.proofs.TestLaws.{neither, or_false}
 use Rattle.geom.specs.declared.Point.{Point}
 use Rattle.geom.specs.declared.Segment.{Segment}
 use Rattle.geom.specs.Plane.{Side, subject, clip}
-use Rattle.edges.specs.declared.Height.{Height}
-use Rattle.edges.specs.Below.{below, height_at}
+use Rattle.edges.specs.Below.{below, level, height_at}
 use Rattle.edges.proofs.Under.{passing}
+use Rattle.edges.proofs.Height.{is_gt_height, is_eq_height}
 use Rattle.scan.specs.declared.list.Entry.{Entry}
 use Rattle.scan.specs.declared.nodes.Below.{Below}
 use Rattle.scan.specs.declared.sums.Sums.{Sums}
@@ -69,7 +71,7 @@ module _ (work : List ℤ) (p : Point) (xs₀ : List ℤ) (used : ℕ) where
       -- an entry that stays
       pub walking_yes : live_at work p t ≡ true → ((side : Side) → nat_abs (amount side t) ≤ 2147483648)
           → {ys : List ℤ} → ys ≡ put_row entries xs left t
-          → {g : Height} → g ≡ height_at (named work t) p
+          → {g : Ordering} → g ≡ height_at (named work t) p
           → {r : Below} → r ≡ with_entry g b t
           → Walking ys (left + 1) r (k + 1)
       unfolding keep some_through
@@ -79,11 +81,11 @@ module _ (work : List ℤ) (p : Point) (xs₀ : List ℤ) (used : ℕ) where
             short = omega (arith, w.short);
             within = omega arith;
             going = going_put entries (keeping (live_at work p)) w.going t t h q (keep-yes (live_at work p) t [] e) w.short y;
-            adding = adding_step (passes_under work p) all w.adding f small (ap (λ (v : Height). v.over) z) (ap (λ (v : Below). v.sums) d);
+            adding = adding_step (passes_under work p) all w.adding f small (ap is_gt z ∙ is_gt_height (named work t) p) (ap (λ (v : Below). v.sums) d);
             through =
                 ap (λ (v : Below). v.through || some_through work p (rest (k + 1))) d
-                ∙ ap (λ (v : Height). (b.through || v.level) || some_through work p (rest (k + 1))) z
-                ∙ or_assoc b.through (height_at (named work t) p).level (some_through work p (rest (k + 1)))
+                ∙ ap (λ (v : Bool). (b.through || v) || some_through work p (rest (k + 1))) (ap is_eq z ∙ is_eq_height (named work t) p)
+                ∙ or_assoc b.through (level (named work t) p) (some_through work p (rest (k + 1)))
                 ∙ ap (λ (l : List Entry). b.through || some_through work p l) (sym f)
                 ∙ w.through;
           }
@@ -157,11 +159,11 @@ first ys K L {r} n q =
     ∙ take_at K L (length K) refl
 
 module _ (work : List ℤ) (e : Segment) where
-  apart : (K : List Entry) → some_through work e.a K ≡ false → All (λ t. (height_at (named work t) e.a).level ≡ false) K
+  apart : (K : List Entry) → some_through work e.a K ≡ false → All (λ t. level (named work t) e.a ≡ false) K
   unfolding some_through
   apart [] z = none
   apart (t ∷ K) z =
-      let n = neither (height_at (named work t) e.a).level (some_through work e.a K) z in
+      let n = neither (level (named work t) e.a) (some_through work e.a K) z in
       also n.0 (apart K n.1)
 
   sums_are : {K : List Entry} → All (λ t. live_at work e.a t ≡ true) K → some_through work e.a K ≡ false → sums_at work e.a K ≡ sums_of work e K

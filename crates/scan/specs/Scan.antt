@@ -1,5 +1,7 @@
 -- The scan list ("Input and answer"): an entry is the number of a segment and its two counts, 64 bits each. And what is read off it at a node ("Masks").
 use Rattle.std.specs.Prelude.{◌≡◌, refl, Bool, true, false, cond, ◌||◌, List, [], ◌∷◌, ◌++◌, ℕ, zero, suc, ◌+◌, ◌*◌, ◌-◌, ◌<◌, ◌≤◌, ℤ, pos, nat_abs, ◌+ℤ◌, ◌*ℤ◌, length, get_or}
+use Rattle.std.specs.Ordering.{is_gt, is_eq}
+use Rattle.std.specs.declared.cmp.Ordering.{Ordering}
 use Rattle.whole.specs.Kind.{Kind, row_at, rows_from, front}
 use Rattle.whole.proofs.KindLaws.{three-numbered, three-short}
 use Rattle.whole.specs.Sum.{Over, ind, keep}
@@ -9,8 +11,7 @@ use Rattle.geom.specs.Plane.{Side, subject, clip, GridSegment}
 use Rattle.geom.specs.Rows.{segments}
 use Rattle.fills.specs.Inside.{inside}
 use Rattle.rules.specs.Keep.{flag, kept}
-use Rattle.edges.specs.declared.Height.{Height}
-use Rattle.edges.specs.Below.{live, below, height_at}
+use Rattle.edges.specs.Below.{live, below, over, level}
 use Rattle.scan.specs.declared.list.Entry.{Entry}
 use Rattle.scan.specs.declared.sums.Sums.{Sums}
 use Rattle.scan.specs.declared.nodes.Below.{Below}
@@ -86,11 +87,11 @@ pub record Reached (work : List ℤ) (e : Segment) (xs : List ℤ) (k : ℕ) (s 
 -- ---- the sums at a point: of entries that are live there they are those below every edge that starts there, unless one of the entries passes through the point
 
 abbrev pub passes_under : List ℤ → Point → Entry → Bool
-passes_under work p t = (height_at (named work t) p).over
+passes_under work p t = over (named work t) p
 
 unfoldable pub some_through : List ℤ → Point → List Entry → Bool
 some_through work p [] = false
-some_through work p (t ∷ l) = (height_at (named work t) p).level || some_through work p l
+some_through work p (t ∷ l) = level (named work t) p || some_through work p l
 
 abbrev pub sum_at : Side → List ℤ → Point → List Entry → ℤ
 sum_at k work p l = Over (amount k) (passes_under work p) l
@@ -99,8 +100,8 @@ abbrev pub sums_at : List ℤ → Point → List Entry → Sums
 sums_at work p l = record { subject = sum_at subject work p l; clip = sum_at clip work p l }
 
 -- one entry more
-abbrev pub with_entry : Height → Below → Entry → Below
-with_entry h b t = record { sums = add_if h.over b.sums t; through = b.through || h.level }
+abbrev pub with_entry : Ordering → Below → Entry → Below
+with_entry h b t = record { sums = add_if (is_gt h) b.sums t; through = b.through || is_eq h }
 
 -- ---- the byte of an edge by the sums at its bottom
 

@@ -10,7 +10,7 @@ use places::row;
 use places::row::Row;
 
 // An edge: the number of its segment, and its counts.
-#[derive(Clone, Copy)]
+#[derive(Clone, Copy, Debug, PartialEq, Eq)]
 pub struct Entry {
     pub segment: i64,
     pub subject: i64,
@@ -74,12 +74,10 @@ fn entry_of(i: usize, v: Segment) -> Entry
     requires { i < 2048 }
     ensures { result ≡ entry_for i v }
 {
-    let subject = gaps::wide(v.subject.0);
-    let clip = gaps::wide(v.clip.0);
     Entry {
         segment: i as i64,
-        subject,
-        clip,
+        subject: i64::from(v.subject.0),
+        clip: i64::from(v.clip.0),
     }
 }
 
@@ -112,10 +110,10 @@ pub(crate) fn enter(
     let mut count = used;
     for k in i..e {
         let v = places::read(work, k);
-        if edges::is_live(v, p) {
-            count = push(scan, room, count, entry_of(k, v));
+        if !edges::is_live(v, p) {
             continue;
         }
+        count = push(scan, room, count, entry_of(k, v));
     }
     count
 }

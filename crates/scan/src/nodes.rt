@@ -5,13 +5,13 @@ ghost use Rattle.whole.specs.Sum.{All};
 ghost use Rattle.geom.specs.Plane.{GridPoint};
 ghost use Rattle.scan.specs.Scan.{entries, EntryOf, OnGrids, with_entry, node_of, stays, arrivals, Staying, Known, Holds};
 
-use crate::list::Entry;
+use crate::list::{self, Entry};
 use crate::sums::Sums;
-use edges::Height;
 use geom::Point;
+use std::cmp::Ordering;
 
 // What a node leaves: so many entries in use, and the sums of the first of them below every edge that starts here.
-#[derive(Clone, Copy)]
+#[derive(Clone, Copy, Debug, PartialEq, Eq)]
 pub struct Node {
     pub used: usize,
     pub known: usize,
@@ -19,27 +19,27 @@ pub struct Node {
 }
 
 // The counts of the entries that pass under a point, and whether one passes through it.
-#[derive(Clone, Copy)]
+#[derive(Clone, Copy, Debug, PartialEq, Eq)]
 struct Below {
     sums: Sums,
     through: bool,
 }
 
-#[derive(Clone, Copy)]
+#[derive(Clone, Copy, Debug, PartialEq, Eq)]
 struct Stayed {
     left: usize,
     below: Below,
 }
 
-fn with_entry(h: Height, b: Below, t: Entry) -> Below
+fn with_entry(h: Ordering, b: Below, t: Entry) -> Below
     requires subject_bound { (nat_abs b.sums.subject ≤ 4096 * 2147483648) × (nat_abs b.sums.clip ≤ 4096 * 2147483648) }
     requires subject_bound_2 { (nat_abs t.subject ≤ 2147483648) × (nat_abs t.clip ≤ 2147483648) }
     ensures { result ≡ with_entry h b t }
 {
-    let sums = crate::sums::add_if(h.over, b.sums, t);
+    let sums = b.sums.add_if(h.is_gt(), t);
     Below {
         sums,
-        through: b.through | h.level,
+        through: b.through | h.is_eq(),
     }
 }
 
@@ -54,18 +54,18 @@ fn stay(work: &[i32], n: usize, scan: &mut [i64], used: usize, p: Point) -> Stay
 {
     let mut left: usize = 0;
     let mut b = Below {
-        sums: crate::sums::none(),
+        sums: Sums::default(),
         through: false,
     };
     for k in 0..used {
-        let t = crate::list::entry_at(scan, k);
-        let v = crate::list::named(work, n, t);
-        if edges::is_live(v, p) {
-            crate::list::put(scan, left, t);
-            left += 1;
-            b = with_entry(edges::height_at(v, p), b, t);
+        let t = list::entry_at(scan, k);
+        let v = list::named(work, n, t);
+        if !edges::is_live(v, p) {
             continue;
         }
+        list::put(scan, left, t);
+        left += 1;
+        b = with_entry(edges::height_at(v, p), b, t);
     }
     Stayed { left, below: b }
 }
@@ -75,18 +75,17 @@ fn node_of(used: usize, s: Stayed) -> Node
     ensures { result ≡ node_of used s }
 {
     let below = s.below;
-    let sums = below.sums;
     if below.through {
         return Node {
             used,
             known: 0,
-            sums: crate::sums::none(),
+            sums: Sums::default(),
         };
     }
     Node {
         used,
         known: s.left,
-        sums,
+        sums: below.sums,
     }
 }
 
@@ -113,13 +112,13 @@ pub fn arrive(
 {
     if sorted {
         let s = stay(work, n, scan, used, p);
-        let all = crate::list::enter(work, scan, room, s.left, i, e, p);
+        let all = list::enter(work, scan, room, s.left, i, e, p);
         return node_of(all, s);
     }
-    let all = crate::list::enter(work, scan, room, 0, 0, n, p);
+    let all = list::enter(work, scan, room, 0, 0, n, p);
     Node {
         used: all,
         known: 0,
-        sums: crate::sums::none(),
+        sums: Sums::default(),
     }
 }

@@ -1,54 +1,31 @@
 // The sums below an edge, read off the scan list.
-ghost use Rattle.std.specs.Prelude.{◌≡◌, ◌*◌, ◌≤◌, length, ◌+ℤ◌, ◌*ℤ◌, nat_abs};
-ghost use Rattle.std.specs.Int.{w64};
-ghost use Rattle.std.proofs.Common.{SFits};
+ghost use Rattle.std.specs.Prelude.{◌≡◌, ◌*◌, ◌≤◌, length, nat_abs};
 ghost use Rattle.whole.specs.Kind.{rows_from};
-ghost use Rattle.whole.specs.Sum.{All, ind};
+ghost use Rattle.whole.specs.Sum.{All};
 ghost use Rattle.geom.specs.Plane.{GridSegment};
-ghost use Rattle.scan.specs.Scan.{entries, EntryOf, OnGrids, no_sums, add_if, sums_of, Reached};
+ghost use Rattle.scan.specs.Scan.{entries, EntryOf, OnGrids, add_if, sums_of, Reached};
 
-use crate::list::Entry;
+use crate::list::{self, Entry};
 use geom::Segment;
 
-#[derive(Clone, Copy)]
+#[derive(Clone, Copy, Debug, Default, PartialEq, Eq)]
 pub struct Sums {
     pub subject: i64,
     pub clip: i64,
 }
 
-fn plus(a: i64, b: i64) -> i64
-    requires { SFits w64 (a +ℤ b) }
-    ensures { result ≡ a +ℤ b }
-{
-    a + b
-}
-
-// The count where it counts, and else 0: no branch, since what lies below an edge cannot be guessed.
-fn count_if(hit: bool, z: i64) -> i64
-    ensures { result ≡ z *ℤ ind hit }
-{
-    if hit {
-        return z;
-    }
-    0
-}
-
-pub(crate) fn add_if(hit: bool, s: Sums, t: Entry) -> Sums
-    requires subject_bound { (nat_abs s.subject ≤ 4096 * 2147483648) × (nat_abs s.clip ≤ 4096 * 2147483648) }
-    requires subject_bound_2 { (nat_abs t.subject ≤ 2147483648) × (nat_abs t.clip ≤ 2147483648) }
-    ensures { result ≡ add_if hit s t }
-{
-    let subject = plus(s.subject, count_if(hit, t.subject));
-    let clip = plus(s.clip, count_if(hit, t.clip));
-    Sums { subject, clip }
-}
-
-pub(crate) fn none() -> Sums
-    ensures { result ≡ no_sums }
-{
-    Sums {
-        subject: 0,
-        clip: 0,
+impl Sums {
+    // With the counts of an entry that counts. No branch, since what lies below an edge cannot be guessed.
+    pub(crate) fn add_if(self, hit: bool, t: Entry) -> Sums
+        requires subject_bound { (nat_abs self.subject ≤ 4096 * 2147483648) × (nat_abs self.clip ≤ 4096 * 2147483648) }
+        requires subject_bound_2 { (nat_abs t.subject ≤ 2147483648) × (nat_abs t.clip ≤ 2147483648) }
+        ensures { result ≡ add_if hit self t }
+    {
+        let times = i64::from(hit);
+        Sums {
+            subject: self.subject + t.subject * times,
+            clip: self.clip + t.clip * times,
+        }
     }
 }
 
@@ -73,10 +50,10 @@ pub fn sums_below(
 {
     let mut sum = s;
     for k in known..used {
-        let t = crate::list::entry_at(scan, k);
-        let v = crate::list::named(work, n, t);
+        let t = list::entry_at(scan, k);
+        let v = list::named(work, n, t);
         let hit = edges::is_below(v, e);
-        sum = add_if(hit, sum, t);
+        sum = sum.add_if(hit, t);
     }
     sum
 }

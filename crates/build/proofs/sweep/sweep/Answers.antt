@@ -1,4 +1,5 @@
 -- `sweep`: node after node, each of which leaves in the scan list what is live of the whole list (Sweeping).
+use Rattle.masks.specs.Rules.{fill_number, overlay_number}
 use mathlib.Core.Path.{subst, ◌∙◌}
 use Prim.Native.Nat.{◌*◌, ◌≤◌}
 use native.Mathlib.Omega.{arith}
@@ -37,7 +38,7 @@ ready c h =
 pub loop-i-init : goal.loop-i-init
 loop-i-init c =
     let a = c.args in
-    sweeping_start a.fill a.rule c.scan_room-room.result a.work.now a.n c.in_order-sorted.result a.scan.now a.masks.now
+    sweeping_start (fill_number a.rules) (overlay_number a.rules) c.scan_room-room.result a.work.now a.n c.in_order-sorted.result a.scan.now a.masks.now
 
 pub node_end-e-requires : goal.node_end-e-requires
 node_end-e-requires c = record { n_in_bounds = omega arith; i_lt_n = omega arith }
@@ -61,7 +62,7 @@ returns-then-room-used c =
     let r = c.scan_room-room in
     let a = c.args in
     rw (← r.ensures)
-    (swept-crowded a.fill a.rule r.result a.work.now a.n c.in_order-sorted.result c.loop-i.invariant c.in_order-sorted.ensures c.node_end-e.ensures (arrived (goal.at.returns-then-room-used c).After-arrive-node) c.if-room-used.true)
+    (swept-crowded (fill_number a.rules) (overlay_number a.rules) r.result a.work.now a.n c.in_order-sorted.result c.loop-i.invariant c.in_order-sorted.ensures c.node_end-e.ensures (arrived (goal.at.returns-then-room-used c).After-arrive-node) c.if-room-used.true)
 
 pub write_bytes-requires : goal.write_bytes-requires
 write_bytes-requires c =
@@ -69,8 +70,8 @@ write_bytes-requires c =
     let g = c.loop-i.invariant in
     let d = c.node_end-e.ensures in
     let h : c.arrive-node.result.used ≤ c.scan_room-room.result = c.if-room-used.false in
-    let now = entries_now a.fill a.rule c.scan_room-room.result a.work.now a.n c.in_order-sorted.result g c.in_order-sorted.ensures d (arrived (goal.at.write_bytes-requires c).After-arrive-node) h in
-    record { n_in_bounds = c.requires.n_in_bounds.0; on_grids = c.requires.on_grids; rule_bound = c.requires.rule_bound; used_in_bounds = (omega (arith, h, (roomy (goal.at.write_bytes-requires c).At-loop-i).0, (arrived (goal.at.write_bytes-requires c).After-arrive-node).same_length), omega (arith, h, (roomy (goal.at.write_bytes-requires c).At-loop-i).1)); all = now; ready = ready (goal.at.write_bytes-requires c).After-arrive-node h; i_le_e = (omega (arith, d.after), d.within, omega (arith, g.masks_kept, c.requires.n_in_bounds.2)) }
+    let now = entries_now (fill_number a.rules) (overlay_number a.rules) c.scan_room-room.result a.work.now a.n c.in_order-sorted.result g c.in_order-sorted.ensures d (arrived (goal.at.write_bytes-requires c).After-arrive-node) h in
+    record { n_in_bounds = c.requires.n_in_bounds.0; on_grids = c.requires.on_grids; used_in_bounds = (omega (arith, h, (roomy (goal.at.write_bytes-requires c).At-loop-i).0, (arrived (goal.at.write_bytes-requires c).After-arrive-node).same_length), omega (arith, h, (roomy (goal.at.write_bytes-requires c).At-loop-i).1)); all = now; ready = ready (goal.at.write_bytes-requires c).After-arrive-node h; i_le_e = (omega (arith, d.after), d.within, omega (arith, g.masks_kept, c.requires.n_in_bounds.2)) }
 
 pub loop-i-smaller : goal.loop-i-smaller
 loop-i-smaller c =
@@ -79,7 +80,7 @@ loop-i-smaller c =
 pub loop-i-preserved : goal.loop-i-preserved
 loop-i-preserved c =
     let a = c.args in
-    sweeping_step a.fill a.rule c.scan_room-room.result a.work.now a.n c.in_order-sorted.result c.loop-i.invariant c.in_order-sorted.ensures c.node_end-e.ensures (arrived (goal.at.loop-i-preserved c).After-arrive-node) c.if-room-used.false c.write_bytes.ensures
+    sweeping_step (fill_number a.rules) (overlay_number a.rules) c.scan_room-room.result a.work.now a.n c.in_order-sorted.result c.loop-i.invariant c.in_order-sorted.ensures c.node_end-e.ensures (arrived (goal.at.loop-i-preserved c).After-arrive-node) c.if-room-used.false c.write_bytes.ensures
 
 pub shape_of-scan : goal.shape_of-scan
 shape_of-scan c = c.loop-i.invariant.scan_kept
@@ -92,4 +93,4 @@ returns c =
     let r = c.scan_room-room in
     let a = c.args in
     rw (← r.ensures)
-    (swept a.fill a.rule r.result a.work.now a.n c.in_order-sorted.result c.loop-i.invariant (omega arith))
+    (swept (fill_number a.rules) (overlay_number a.rules) r.result a.work.now a.n c.in_order-sorted.result c.loop-i.invariant (omega arith))

@@ -1,4 +1,5 @@
 -- `write_bytes`: byte after byte; those from k on are still to come.
+use Rattle.masks.specs.Rules.{fill_number, overlay_number}
 use mathlib.Core.Path.{◌≡◌, refl, sym, ap, ◌∙◌}
 use mathlib.Core.List.{List}
 use native.Mathlib.Numerals.{add-one}
@@ -35,12 +36,12 @@ sums_below-s-requires c =
     let r = p.ready in
     record { n_in_bounds = p.n_in_bounds; on_grids = p.on_grids; grid_segment = rw c.read-v.ensures (p.on_grids.each c.loop-k.k (omega arith)); used_in_bounds = (p.used_in_bounds.0, p.used_in_bounds.1, r.within); all = p.all; reached = rw c.read-v.ensures (r.each c.loop-k.k (omega arith) (omega arith)) }
 
-pub byte-byte-requires : goal.byte-byte-requires
-byte-byte-requires c =
+pub byte-requires : goal.byte-requires
+byte-requires c =
     let near = c.sums_below-s.ensures.near in
     let s = c.sums_below-s.result in
     let v = c.read-v.result in
-    record { rule_bound = c.requires.rule_bound; sfits = sum_fits w64 s.subject v.subject.0 (omega (arith, near.0, near_32 (in-subject (goal.at.byte-byte-requires c).After-read-v))); sfits_2 = sum_fits w64 s.clip v.clip.0 (omega (arith, near.1, near_32 (in-clip (goal.at.byte-byte-requires c).After-read-v))) }
+    record { sfits = sum_fits w64 s.subject v.subject.0 (omega (arith, near.0, near_32 (in-subject (goal.at.byte-requires c).After-read-v))); sfits_2 = sum_fits w64 s.clip v.clip.0 (omega (arith, near.1, near_32 (in-clip (goal.at.byte-requires c).After-read-v))) }
 
 pub bounds-masks-k : goal.bounds-masks-k
 bounds-masks-k c =
@@ -55,10 +56,10 @@ loop-k-preserved c =
     let k = c.loop-k.k in
     let v = segment_at w k in
     let s : c.sums_below-s.result ≡ sums_of w v L = c.sums_below-s.ensures.sums ∙ ap (λ (u : Segment). sums_of w u L) c.read-v.ensures in
-    let m : c.byte-byte.result ≡ byte_by a.fill a.rule (sums_of w v L) v =
-    c.byte-byte.ensures ∙ ap (λ (u : Segment). byte_by a.fill a.rule c.sums_below-s.result u) c.read-v.ensures ∙ ap (λ (u : Sums). byte_by a.fill a.rule u v) s in
-    let next = ap (λ (K : List Segment). sets c.loop-k.masks k (bytes_by a.fill a.rule w L K)) (rows_step segments w a.e k (omega arith)) in
-    (omega arith, omega arith, length-set c.loop-k.masks k c.byte-byte.result ∙ c.loop-k.invariant.2, rw (m, add-one k) (rw (add-one k) at (sym next) ∙ c.loop-k.invariant.3))
+    let m : c.byte.result ≡ byte_by (fill_number a.rules) (overlay_number a.rules) (sums_of w v L) v =
+    c.byte.ensures ∙ ap (λ (u : Segment). byte_by (fill_number a.rules) (overlay_number a.rules) c.sums_below-s.result u) c.read-v.ensures ∙ ap (λ (u : Sums). byte_by (fill_number a.rules) (overlay_number a.rules) u v) s in
+    let next = ap (λ (K : List Segment). sets c.loop-k.masks k (bytes_by (fill_number a.rules) (overlay_number a.rules) w L K)) (rows_step segments w a.e k (omega arith)) in
+    (omega arith, omega arith, length-set c.loop-k.masks k c.byte.result ∙ c.loop-k.invariant.2, rw (m, add-one k) (rw (add-one k) at (sym next) ∙ c.loop-k.invariant.3))
 
 pub shape_of-masks : goal.shape_of-masks
 shape_of-masks c = c.loop-k.invariant.2
@@ -67,4 +68,4 @@ pub returns : goal.returns
 returns c =
     let a = c.args in
     let w = a.work.now in
-    sym (ap (λ (K : List Segment). sets c.loop-k.masks c.loop-k.k (bytes_by a.fill a.rule w (rows_from entries a.scan.now 0 a.node.used) K)) (rows-done segments w a.e c.loop-k.k (omega arith))) ∙ c.loop-k.invariant.3
+    sym (ap (λ (K : List Segment). sets c.loop-k.masks c.loop-k.k (bytes_by (fill_number a.rules) (overlay_number a.rules) w (rows_from entries a.scan.now 0 a.node.used) K)) (rows-done segments w a.e c.loop-k.k (omega arith))) ∙ c.loop-k.invariant.3

@@ -22,17 +22,6 @@ pub push-count-requires : goal.push-count-requires
 push-count-requires c =
     record { room_in_bounds = omega (arith, c.loop-k.invariant.3.kept); count_bound = omega arith }
 
-pub loop-k-preserved-then-is_live : goal.loop-k-preserved-then-is_live
-loop-k-preserved-then-is_live c =
-    let a = c.args in
-    let w = a.work.now in
-    let k = c.loop-k.k in
-    let t = entry_of k (segment_at w k) in
-    let rest = entries_from w (k + 1) (a.e - (k + 1)) in
-    let same : c.entry_of.result ≡ t = c.entry_of.ensures ∙ ap (entry_of k) c.read-v.ensures in
-    let more = ap (keep (live_at w a.p)) (entries-step w a.e k (omega arith)) ∙ keep-yes (live_at w a.p) t rest (sym (tested (goal.at.loop-k-preserved-then-is_live c).After-is_live) ∙ c.if-is_live.true) in
-    (omega arith, omega arith, omega (arith, c.push-count.ensures.number), coming-step c.loop-k.invariant.3 more (rw same at c.push-count.ensures))
-
 pub loop-k-preserved : goal.loop-k-preserved
 loop-k-preserved c =
     let a = c.args in
@@ -40,7 +29,18 @@ loop-k-preserved c =
     let k = c.loop-k.k in
     let t = entry_of k (segment_at w k) in
     let rest = entries_from w (k + 1) (a.e - (k + 1)) in
-    let less = ap (keep (live_at w a.p)) (entries-step w a.e k (omega arith)) ∙ keep_no (live_at w a.p) t rest (sym (tested (goal.at.loop-k-preserved c).After-is_live) ∙ c.if-is_live.false) in
+    let same : c.entry_of.result ≡ t = c.entry_of.ensures ∙ ap (entry_of k) c.read-v.ensures in
+    let more = ap (keep (live_at w a.p)) (entries-step w a.e k (omega arith)) ∙ keep-yes (live_at w a.p) t rest (sym (tested (goal.at.loop-k-preserved c).After-is_live) ∙ c.if-not-is_live.false) in
+    (omega arith, omega arith, omega (arith, c.push-count.ensures.number), coming-step c.loop-k.invariant.3 more (rw same at c.push-count.ensures))
+
+pub loop-k-preserved-then-not-is_live : goal.loop-k-preserved-then-not-is_live
+loop-k-preserved-then-not-is_live c =
+    let a = c.args in
+    let w = a.work.now in
+    let k = c.loop-k.k in
+    let t = entry_of k (segment_at w k) in
+    let rest = entries_from w (k + 1) (a.e - (k + 1)) in
+    let less = ap (keep (live_at w a.p)) (entries-step w a.e k (omega arith)) ∙ keep_no (live_at w a.p) t rest (sym (tested (goal.at.loop-k-preserved-then-not-is_live c).After-is_live) ∙ c.if-not-is_live.true) in
     (omega arith, omega arith, omega arith, rw less at c.loop-k.invariant.3)
 
 pub shape_of-scan : goal.shape_of-scan

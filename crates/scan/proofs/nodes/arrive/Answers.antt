@@ -6,6 +6,7 @@ use Rattle.whole.specs.Kind.{rows_from}
 use Rattle.whole.specs.Sum.{keep}
 use Rattle.scan.specs.Scan.{entries, entries_from, live_at}
 use Rattle.scan.proofs.Holding.{joined, anew}
+use Rattle.scan.proofs.Adding.{none_is}
 use Rattle.scan.proofs.Walking.{known, known-none}
 use Rattle.scan.proofs.nodes.arrive.Goals as goal
 
@@ -24,5 +25,5 @@ returns-then-sorted c =
 
 pub returns : goal.returns
 returns c =
-    rw (c.if-sorted.false, c.none.ensures)
+    rw (c.if-sorted.false, none_is c.default.ensures)
     (record { holds = anew c.requires.n_in_bounds.1 (rw (sub-zero c.args.n) at c.enter-all-2.ensures); known = known-none })

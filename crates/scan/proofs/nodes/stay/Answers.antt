@@ -14,7 +14,7 @@ use Rattle.scan.specs.declared.list.Entry.{Entry}
 use Rattle.scan.specs.declared.sums.Sums.{Sums}
 use Rattle.scan.specs.Scan.{entries, named, EntryOf, live_at, amount}
 use Rattle.scan.proofs.Entries.{all_row}
-use Rattle.scan.proofs.Adding.{small_entry}
+use Rattle.scan.proofs.Adding.{small_entry, none_is}
 use Rattle.scan.proofs.Walking.{walking_start, walking_yes, walking_no, walked}
 use Rattle.scan.proofs.nodes.stay.Goals as goal
 use Rattle.scan.proofs.nodes.stay.Goals.{After-entry_at-t, After-is_live, After-named-v}
@@ -40,7 +40,7 @@ tested c =
 pub loop-k-init : goal.loop-k-init
 loop-k-init c =
     let a = c.args in
-    walking_start a.work.now a.p a.scan.now a.used (ap (λ (s : Sums). record { sums = s; through = false }) c.none.ensures)
+    walking_start a.work.now a.p a.scan.now a.used (ap (λ (s : Sums). record { sums = s; through = false }) (none_is c.default.ensures))
 
 pub entry_at-t-requires : goal.entry_at-t-requires
 entry_at-t-requires c = omega (arith, c.loop-k.invariant.going.kept)
@@ -73,15 +73,15 @@ pub overflow_step-k : goal.overflow_step-k
 overflow_step-k c =
     omega (arith, c.loop-k-test.true)
 
-pub loop-k-preserved-then-is_live : goal.loop-k-preserved-then-is_live
-loop-k-preserved-then-is_live c =
-    let a = c.args in
-    walking_yes a.work.now a.p a.scan.now a.used c.loop-k.invariant (omega arith) c.entry_at-t.ensures (sym (tested (goal.at.loop-k-preserved-then-is_live c).After-is_live) ∙ c.if-is_live.true) (small (goal.at.loop-k-preserved-then-is_live c).After-named-v) c.put.ensures (c.height_at.ensures ∙ ap (λ (u : Segment). height_at u a.p) c.named-v.ensures) c.with_entry-b.ensures
-
 pub loop-k-preserved : goal.loop-k-preserved
 loop-k-preserved c =
     let a = c.args in
-    walking_no a.work.now a.p a.scan.now a.used c.loop-k.invariant (omega arith) c.entry_at-t.ensures (sym (tested (goal.at.loop-k-preserved c).After-is_live) ∙ c.if-is_live.false)
+    walking_yes a.work.now a.p a.scan.now a.used c.loop-k.invariant (omega arith) c.entry_at-t.ensures (sym (tested (goal.at.loop-k-preserved c).After-is_live) ∙ c.if-not-is_live.false) (small (goal.at.loop-k-preserved c).After-named-v) c.put.ensures (c.height_at.ensures ∙ ap (λ (u : Segment). height_at u a.p) c.named-v.ensures) c.with_entry-b.ensures
+
+pub loop-k-preserved-then-not-is_live : goal.loop-k-preserved-then-not-is_live
+loop-k-preserved-then-not-is_live c =
+    let a = c.args in
+    walking_no a.work.now a.p a.scan.now a.used c.loop-k.invariant (omega arith) c.entry_at-t.ensures (sym (tested (goal.at.loop-k-preserved-then-not-is_live c).After-is_live) ∙ c.if-not-is_live.true)
 
 pub shape_of-scan : goal.shape_of-scan
 shape_of-scan c = c.loop-k.invariant.going.kept
