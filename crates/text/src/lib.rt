@@ -10,37 +10,30 @@ ghost use Rattle.text.specs.Text.{digits_within, number as number_of, spaced, li
 use overlay::answer::Answer;
 
 // The text of an answer, whose rows and bytes stand at the front of the lists. How many bytes it has: at most 313,386.
+#[tactic(auto, using(crate::specs::PutLaws::put_none, crate::specs::PutLaws::put_more), unfolding(crate::specs::Text::written))]
 pub fn write(a: Answer, rows: &[i32], bytes: &[u8], out: &mut [u8]) -> usize
     ensures put { Put out.old 0 (written (told a) rows.now bytes.now) result out.new }
     ensures upper_bound { result ≤ 313386 }
 {
     let t = report::of(a);
-    let m = t.segments;
-    if m > 2048 {
+    let m = t.segments as usize;
+    if m > 2048 || rows.len() < 6 * m || bytes.len() < m {
         return 0;
     }
-    let count = m as usize;
-    if rows.len() < 6 * count {
-        return 0;
-    }
-    if bytes.len() < count {
-        return 0;
-    }
-    let at = head(out, t.answer, m);
-    lines(out, at, rows, bytes, count)
+    let at = head(out, t.answer, t.segments);
+    lines(out, at, rows, &bytes[..m])
 }
 
-fn lines(out: &mut [u8], at: usize, rows: &[i32], bytes: &[u8], m: usize) -> usize
+fn lines(out: &mut [u8], at: usize, rows: &[i32], bytes: &[u8]) -> usize
     requires at_bound { at ≤ 42 }
-    requires m_bound { m ≤ 2048 }
-    requires m_in_bounds { 6 * m ≤ length rows.now }
-    requires m_in_bounds_2 { m ≤ length bytes.now }
-    ensures put { Put out.old at (lines_from rows.now bytes.now 0 m) result out.new }
-    ensures upper_bound { result ≤ 42 + 153 * m }
+    requires bytes_bound { length bytes.now ≤ 2048 }
+    requires bytes_have_rows { 6 * length bytes.now ≤ length rows.now }
+    ensures put { Put out.old at (lines_from rows.now bytes.now 0 (length bytes.now)) result out.new }
+    ensures upper_bound { result ≤ 42 + 153 * length bytes.now }
 {
     let mut next = at;
-    for i in 0..m {
-        next = line(out, next, rows, i, bytes[i]);
+    for (i, &byte) in bytes.iter().enumerate() {
+        next = line(out, next, rows, i, byte);
     }
     next
 }
@@ -50,9 +43,9 @@ fn head(out: &mut [u8], answer: u64, m: u64) -> usize
     ensures upper_bound { result ≤ 42 }
 {
     let a = decimal(out, 0, answer, 20);
-    let b = byte(out, a, 32);
+    let b = byte(out, a, b' ');
     let c = decimal(out, b, m, 20);
-    byte(out, c, 10)
+    byte(out, c, b'\n')
 }
 
 // Row number i and its byte.
@@ -66,8 +59,8 @@ fn line(out: &mut [u8], at: usize, rows: &[i32], i: usize, mask: u8) -> usize
     let a = pair(out, at, v.a.x.0, v.a.y.0);
     let b = pair(out, a, v.b.x.0, v.b.y.0);
     let c = pair(out, b, v.subject.0, v.clip.0);
-    let d = decimal(out, c, mask as u64, 20);
-    byte(out, d, 10)
+    let d = decimal(out, c, u64::from(mask), 20);
+    byte(out, d, b'\n')
 }
 
 fn pair(out: &mut [u8], at: usize, x: i32, y: i32) -> usize
@@ -76,34 +69,24 @@ fn pair(out: &mut [u8], at: usize, x: i32, y: i32) -> usize
     ensures upper_bound { result ≤ at + 44 }
 {
     let a = number(out, at, x);
-    let b = byte(out, a, 32);
+    let b = byte(out, a, b' ');
     let c = number(out, b, y);
-    byte(out, c, 32)
+    byte(out, c, b' ')
 }
 
 // With its sign where it is below zero.
+#[tactic(auto, using(crate::specs::PutLaws::put_more), unfolding(crate::specs::Text::number))]
 fn number(out: &mut [u8], at: usize, z: i32) -> usize
     requires { at ≤ 1000200 }
     ensures put { Put out.old at (number_of z) result out.new }
     ensures upper_bound { result ≤ at + 21 }
 {
-    let n = size(z);
+    let n = u64::from(z.unsigned_abs());
     if z < 0 {
-        let a = byte(out, at, 45);
+        let a = byte(out, at, b'-');
         return decimal(out, a, n, 20);
     }
     decimal(out, at, n, 20)
-}
-
-// How far z is from 0.
-fn size(z: i32) -> u64
-    ensures { result ≡ nat_abs z }
-{
-    let wide = z as i64;
-    if wide < 0 {
-        return (-wide) as u64;
-    }
-    wide as u64
 }
 
 // The decimal digits of a number that has at most k.
@@ -117,10 +100,10 @@ fn decimal(out: &mut [u8], at: usize, n: u64, k: usize) -> usize
         return at;
     }
     if n < 10 {
-        return byte(out, at, 48 + n as u8);
+        return byte(out, at, b'0' + n as u8);
     }
     let a = decimal(out, at, n / 10, k - 1);
-    byte(out, a, 48 + (n % 10) as u8)
+    byte(out, a, b'0' + (n % 10) as u8)
 }
 
 // Stored if there is room.

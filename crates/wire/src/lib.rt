@@ -9,7 +9,7 @@ use checks::Settings;
 
 // Takes apart what was read: one version byte 1, then big-endian four-byte numbers. What is asked, and its segments are then the first rows of
 // the input list; or nothing: another version, too many segments, missing or extra bytes, or no room for the segments.
-#[tactic(auto, unfolding(crate::specs::Asked::is_taken, crate::specs::Asked::decoded_as, crate::specs::Asked::decoded_list), using(crate::proofs::BytesLaws::at_front))]
+#[tactic(auto, unfolding(crate::specs::Asked::is_taken, crate::specs::Asked::decoded_as, crate::specs::Asked::decoded_list))]
 pub fn decode(bytes: &[u8], input: &mut [i32]) -> Option<Settings>
     ensures value { result ≡ decoded_as bytes.now (length input.old) }
     ensures input_after { input.new ≡ decoded_list bytes.now input.old }

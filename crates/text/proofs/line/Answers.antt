@@ -8,7 +8,7 @@ use mir.Val.{SFits, to_z, of_z}
 use mir.Facts.{to_z-of_z}
 use Rattle.geom.specs.declared.Segment.{Segment}
 use Rattle.text.specs.PutLaws.{put_more, put_as, put_length}
-use Rattle.text.specs.Text.{spaced, line}
+use Rattle.text.specs.Text.{decimal, spaced, line}
 use Rattle.text.proofs.TextLaws.{line_pairs}
 use borrow.Author.Rules.{rules}
 use Rattle.text.proofs.line.Goals as goal
@@ -45,11 +45,12 @@ returns c =
     let second = c.pair-b.ensures in
     let third = c.pair-c.ensures in
     let last = c.decimal-d.ensures in
+    let byte = put_as (ap decimal c.from.ensures) last.put in
     let end = c.byte.ensures in
     let e = sym (line_pairs c.read-v.result mask) ∙ ap (λ (v : Segment). line v mask) c.read-v.ensures in
     let points = put_more (put_as (pair_of (a-fits (goal.at.returns c).After-read-v)) first.put) (put_as (pair_of (b-fits (goal.at.returns c).After-read-v)) second.put) in
     let counts = put_more points (put_as (pair_of (counts-fit (goal.at.returns c).After-read-v)) third.put) in
-    record { put = put_as e (put_more (put_more counts last.put) end); upper_bound = omega (arith, first.upper_bound, second.upper_bound, third.upper_bound, last.upper_bound, end.place) }
+    record { put = put_as e (put_more (put_more counts byte) end); upper_bound = omega (arith, first.upper_bound, second.upper_bound, third.upper_bound, last.upper_bound, end.place) }
 
 pub shape_of-out : goal.shape_of-out
 shape_of-out c = put_length (returns c).put
