@@ -1,2 +1,0 @@
--- A bit of the mask.
-pub mod Bits

@@ -1,9 +1,0 @@
--- `lines::bit_if` meets its contract: the value, or nothing of it.
-use native.Mathlib.Omega.{arith}
-use Rattle.lines.proofs.bit_if.Goals as goal
-
-pub returns-then-hit : goal.returns-then-hit
-returns-then-hit c = rw c.if-hit.true (omega arith)
-
-pub returns : goal.returns
-returns c = rw c.if-hit.false (omega arith)
