@@ -55,7 +55,7 @@ fn advance(work: &mut [i32], m: usize, marks: &mut [i32], made: usize, last: boo
     if m == 0 {
         return Step::Settled(0, made);
     }
-    let split::answer::Looked::Marks(count) = pairwise::look(work, m, 2, marks) else {
+    let Ok(count) = pairwise::look(work, m, 2, marks) else {
         return Step::Refused(Answer::MarksFull);
     };
     if count == 0 {
@@ -74,10 +74,10 @@ fn cut(work: &mut [i32], m: usize, marks: &mut [i32], count: usize) -> Step
     ensures next_value { (next : List Seg → Ran) → split_at (work_room (length work.old)) (rows_from segments work.old 0 m) next ≡ goes_on next work.new result }
     ensures still_kept { StillKept work.new result }
 {
-    let split::answer::Tidied::Distinct(k) = split::tidy::tidy(marks, count) else {
+    let Ok(k) = split::tidy::tidy(marks, count) else {
         return Step::Refused(Answer::WorkFull);
     };
-    let apply::Applied::Pieces(p) = apply::apply(work, m, marks, k) else {
+    let Ok(p) = apply::apply(work, m, marks, k) else {
         return Step::Refused(Answer::WorkFull);
     };
     let Ok(rows) = steps::join(work, p) else {

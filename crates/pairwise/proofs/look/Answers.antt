@@ -1,8 +1,8 @@
 -- `look` meets its contract: each test in turn is the definition's, and a list that passes them all goes to `pairs`.
 use mathlib.Core.Path.{◌≡◌, refl, sym, ◌∙◌}
-use mathlib.Core.Bool.{false, ◌||◌}
+use mathlib.Core.Bool.{true, false, ◌||◌}
 use native.Mathlib.Omega.{arith}
-use Prim.Native.Nat.{◌*◌}
+use Prim.Native.Nat.{ℕ, ◌*◌}
 use borrow.Author.Tests.{lt-ltb, le-ltb}
 use lib.Dec.{ltb}
 use lib.ListN.{length}
@@ -11,11 +11,12 @@ use Rattle.geom.specs.Rows.{segments}
 use Rattle.faults.specs.Faults.{some, is_off}
 use Rattle.split.specs.Looked.{look_answer}
 use Rattle.pairwise.specs.Listed.{look_list}
-use Rattle.split.specs.declared.answer.Looked.{Looked}
-use Rattle.split.specs.declared.answer.Looked.TheVariants.{Short, OffGrid, NoLength}
+use Rattle.std.specs.Prelude.{Result, Err}
+use Rattle.split.specs.declared.answer.LookError.{LookError}
+use Rattle.split.specs.declared.answer.LookError.TheVariants.{Short, OffGrid, NoLength}
 use Rattle.split.specs.Said.{look_says, look_said, also-looked}
 use Rattle.pairwise.proofs.look.Goals as goal
-use Rattle.pairwise.proofs.look.Goals.{Start, Else-some_fault, Else-work-n}
+use Rattle.pairwise.proofs.look.Goals.{Start, Else-some_fault, Else-work-n, then-n-gt2048-via-then-n-gt2048, then-n-gt2048-via-else-n-gt2048+then-work-n}
 
 long_enough : (c : Else-work-n) → let a = c.args in (ltb 2048 a.n || ltb (length a.work.now) (6 * a.n)) ≡ false
 long_enough c = rw (le-ltb 2048 c.args.n (omega arith), le-ltb _ _ c.if-work-n.false)
@@ -24,7 +25,7 @@ none_off : (c : Else-some_fault) → let a = c.args in some is_off (rows_from se
 none_off c = sym c.some_fault.ensures ∙ c.if-some_fault.false
 
 -- what the value says in numbers follows from the value
-said : (c : Start) {r : Looked} → let a = c.args in
+said : (c : Start) {r : Result ℕ LookError} → let a = c.args in
     r ≡ look_answer a.radius a.work.now a.n a.marks.now → look_says r ≡ look_said a.radius a.work.now a.n a.marks.now
 said c v = let a = c.args in (also-looked a.radius a.work.now a.n a.marks.now (v, tt {0})).1.0
 
@@ -32,22 +33,20 @@ pub returns-then-n-gt2048 : goal.returns-then-n-gt2048
 unfolding look_answer look_list
 returns-then-n-gt2048 c =
     let a = c.args in
-    let v : Short ≡ look_answer a.radius a.work.now a.n a.marks.now = rw (lt-ltb 2048 a.n c.if-n-gt2048.true) in
+    let s : (ltb 2048 a.n || ltb (length a.work.now) (6 * a.n)) ≡ true =
+    elim c.then-n-gt2048.branch [
+      | then-n-gt2048-via-then-n-gt2048 w ↦ rw (lt-ltb 2048 a.n w.if-n-gt2048.true)
+      | then-n-gt2048-via-else-n-gt2048+then-work-n w ↦ rw (le-ltb 2048 a.n w.if-n-gt2048.false, lt-ltb _ _ w.if-work-n.true)
+    ] in
+    let v : Err Short ≡ look_answer a.radius a.work.now a.n a.marks.now = rw s in
     record { value = v; result_value = said (goal.at.returns-then-n-gt2048 c).Start v; marks_after = refl }
-
-pub returns-then-work-n : goal.returns-then-work-n
-unfolding look_answer look_list
-returns-then-work-n c =
-    let a = c.args in
-    let v : Short ≡ look_answer a.radius a.work.now a.n a.marks.now = rw (le-ltb 2048 a.n c.if-n-gt2048.false, lt-ltb _ _ c.if-work-n.true) in
-    record { value = v; result_value = said (goal.at.returns-then-work-n c).Start v; marks_after = refl }
 
 pub returns-then-some_fault : goal.returns-then-some_fault
 unfolding look_answer look_list
 returns-then-some_fault c =
     let a = c.args in
     let l = long_enough (goal.at.returns-then-some_fault c).Else-work-n in
-    let v : OffGrid ≡ look_answer a.radius a.work.now a.n a.marks.now = rw (l, sym c.some_fault.ensures ∙ c.if-some_fault.true) in
+    let v : Err OffGrid ≡ look_answer a.radius a.work.now a.n a.marks.now = rw (l, sym c.some_fault.ensures ∙ c.if-some_fault.true) in
     record { value = v; result_value = said (goal.at.returns-then-some_fault c).Start v; marks_after = refl }
 
 pub returns-then-some_fault-2 : goal.returns-then-some_fault-2
@@ -56,7 +55,7 @@ returns-then-some_fault-2 c =
     let a = c.args in
     let l = long_enough (goal.at.returns-then-some_fault-2 c).Else-work-n in
     let o = none_off (goal.at.returns-then-some_fault-2 c).Else-some_fault in
-    let v : NoLength ≡ look_answer a.radius a.work.now a.n a.marks.now = rw (l, o, sym c.some_fault-2.ensures ∙ c.if-some_fault-2.true) in
+    let v : Err NoLength ≡ look_answer a.radius a.work.now a.n a.marks.now = rw (l, o, sym c.some_fault-2.ensures ∙ c.if-some_fault-2.true) in
     record { value = v; result_value = said (goal.at.returns-then-some_fault-2 c).Start v; marks_after = refl }
 
 pub pairs-requires : goal.pairs-requires
