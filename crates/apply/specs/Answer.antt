@@ -1,5 +1,5 @@
 -- Splitting a list where it stands ("Splitting"; refusals 1, 5 and 8 of "Input and answer"): what is answered, and what the work list then holds.
-use Rattle.std.specs.Prelude.{Bool, true, false, cond, ◌&&◌, List, [], ◌∷◌, ℕ, ◌+◌, ltb, ℤ, pos, length, replicate}
+use Rattle.std.specs.Prelude.{Bool, true, false, cond, ◌&&◌, List, [], ◌∷◌, ℕ, ◌+◌, ltb, ℤ, pos, length, replicate, Result, Ok, Err}
 use Rattle.std.specs.Int.Signed.{lt_z}
 use Rattle.whole.specs.Kind.{rows_from, front}
 use Rattle.geom.specs.declared.Segment.{Segment}
@@ -10,8 +10,8 @@ use Rattle.faults.specs.Faults.{some, has_least}
 use Rattle.split.specs.declared.answer.Mark.{Mark}
 use Rattle.split.specs.Marks.{marks}
 use Rattle.split.specs.Chain.{split}
-use Rattle.apply.specs.declared.Applied.{Applied}
-use Rattle.apply.specs.declared.Applied.TheVariants.{Pieces, Short, BadCount, Full}
+use Rattle.apply.specs.declared.ApplyError.{ApplyError}
+use Rattle.apply.specs.declared.ApplyError.TheVariants.{Short, BadCount, Full}
 
 -- ---- marks as a look leaves them ("The run"): sorted by segment, x, y, without repeats, each of a segment of the list
 
@@ -34,19 +34,19 @@ in_order n (m ∷ ms) = (names n m && leads m ms) && in_order n ms
 -- ---- the answer
 
 -- what n segments and `count` marks come to, with room for so many segments
-unfoldable pub outcome : ℕ → List Segment → List Mark → ℕ → ℕ → Applied
+unfoldable pub outcome : ℕ → List Segment → List Mark → ℕ → ℕ → Result ℕ ApplyError
 outcome room L ms n count =
-    cond (in_order n ms) (cond (some has_least L) BadCount (cond (ltb room (n + count)) Full (Pieces (n + count)))) Short
+    cond (in_order n ms) (cond (some has_least L) (Err BadCount) (cond (ltb room (n + count)) (Err Full) (Ok (n + count)))) (Err Short)
 
 -- 1 where a capacity is under what the list is said to hold, or the marks are not in order
-unfoldable pub apply_answer : List ℤ → ℕ → List ℤ → ℕ → Applied
+unfoldable pub apply_answer : List ℤ → ℕ → List ℤ → ℕ → Result ℕ ApplyError
 apply_answer xs n zs count =
-    cond (ltb (work_room (length xs)) n) Short
-    (cond (ltb (mark_room (length zs)) count) Short (outcome (work_room (length xs)) (rows_from segments xs 0 n) (rows_from marks zs 0 count) n count))
+    cond (ltb (work_room (length xs)) n) (Err Short)
+    (cond (ltb (mark_room (length zs)) count) (Err Short) (outcome (work_room (length xs)) (rows_from segments xs 0 n) (rows_from marks zs 0 count) n count))
 
 -- the work list after an answer: the pieces at the front and the rest as it was; after 8 wholly zero; 1 and 5 change nothing
-unfoldable pub apply_list : Applied → List ℤ → ℕ → List ℤ → ℕ → List ℤ
-apply_list (Pieces k) xs n zs count = front segments xs (split (rows_from marks zs 0 count) (rows_from segments xs 0 n))
-apply_list Full xs n zs count = replicate (length xs) (pos 0)
-apply_list Short xs n zs count = xs
-apply_list BadCount xs n zs count = xs
+unfoldable pub apply_list : Result ℕ ApplyError → List ℤ → ℕ → List ℤ → ℕ → List ℤ
+apply_list (Ok k) xs n zs count = front segments xs (split (rows_from marks zs 0 count) (rows_from segments xs 0 n))
+apply_list (Err Full) xs n zs count = replicate (length xs) (pos 0)
+apply_list (Err Short) xs n zs count = xs
+apply_list (Err BadCount) xs n zs count = xs

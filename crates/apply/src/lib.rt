@@ -17,10 +17,9 @@ ghost use Rattle.apply.specs.Start.{start_of};
 use split::answer::Mark;
 use split::mark;
 
-#[derive(Clone, Copy)]
-pub enum Applied {
-    // So many segments.
-    Pieces(usize),
+// Why a list is not cut.
+#[derive(Clone, Copy, Debug, PartialEq, Eq)]
+pub enum ApplyError {
     // The lists are too short, or the marks are not in order (1).
     Short,
     // A count is -2^31 (5).
@@ -29,31 +28,25 @@ pub enum Applied {
     Full,
 }
 
-// The first n rows of `work`, cut at the first `count` marks. After 8 the work list is wholly zero.
-pub fn apply(work: &mut [i32], n: usize, marks: &[i32], count: usize) -> Applied
+// The first n rows of `work`, cut at the first `count` marks: how many segments that makes. After 8 the work list is wholly zero.
+pub fn apply(work: &mut [i32], n: usize, marks: &[i32], count: usize) -> Result<usize, ApplyError>
     ensures value { result ≡ apply_answer work.old n marks.now count }
     ensures result_value { apply_says result ≡ apply_said work.old n marks.now count }
     ensures work_after { work.new ≡ apply_list result work.old n marks.now count }
 {
     let room = rooms::work_room(work.len());
-    if room < n {
-        return Applied::Short;
+    if room < n || rooms::mark_room(marks.len()) < count || !in_order(marks, count, n) {
+        return Err(ApplyError::Short);
     }
-    if rooms::mark_room(marks.len()) < count {
-        return Applied::Short;
+    if faults::some_row(work, n, faults::has_least) {
+        return Err(ApplyError::BadCount);
     }
-    if in_order(marks, count, n) {
-        if faults::some_row(work, n, faults::has_least) {
-            return Applied::BadCount;
-        }
-        if room < n + count {
-            work.fill(0);
-            return Applied::Full;
-        }
-        cut_all(work, n, marks, count);
-        return Applied::Pieces(n + count);
+    if room < n + count {
+        work.fill(0);
+        return Err(ApplyError::Full);
     }
-    Applied::Short
+    cut_all(work, n, marks, count);
+    Ok(n + count)
 }
 
 // The mark is one of segment i.

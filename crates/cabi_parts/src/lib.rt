@@ -14,7 +14,7 @@ ghost use Rattle.cabi_parts.specs.Parts.{rows_in, marks_in};
 
 use build::sweep::FillError;
 use segm::{MergeError, Merged};
-use split::answer::Looked;
+use split::answer::LookError;
 
 // The first n rows of six numbers in order.
 #[unsafe(no_mangle)]
@@ -67,16 +67,10 @@ fn rows_in(a: Result<Merged, MergeError>) -> usize
     }
 }
 
-fn marks_in(a: Looked) -> usize
+fn marks_in(a: Result<usize, LookError>) -> usize
     ensures { result ≡ marks_in a }
 {
-    match a {
-        Looked::Marks(k) => k,
-        Looked::Short => 0,
-        Looked::OffGrid => 0,
-        Looked::NoLength => 0,
-        Looked::MarksFull => 0,
-    }
+    a.unwrap_or(0)
 }
 
 fn number(a: Result<(), FillError>) -> u64

@@ -19,7 +19,8 @@ use Rattle.whole.proofs.KindLaws.{rows_step, rows-done}
 use Rattle.geom.specs.declared.Segment.{Segment}
 use Rattle.geom.specs.Limits.{mark_room}
 use Rattle.geom.specs.Rows.{segments}
-use Rattle.split.specs.declared.answer.Looked.TheVariants.{Marks, MarksFull}
+use Rattle.std.specs.Prelude.{Ok, Err}
+use Rattle.split.specs.declared.answer.LookError.TheVariants.{MarksFull}
 use Rattle.split.specs.declared.answer.Mark.{Mark}
 use Rattle.split.specs.Marks.{marks}
 use Rattle.split.specs.Look.{pair_marks, marks_with, look_from}
@@ -73,18 +74,18 @@ room_fits l = omega arith
 
 module _ {room : ℕ} {xs : List ℤ} {all : List Mark} {ys : List ℤ} {count : ℕ} (l : Left room xs all ys count) where
   pub answer-full : {zs : List ℤ} → room < count → room ≡ mark_room (length xs) → zs ≡ replicate (length ys) (pos 0)
-      → (MarksFull ≡ counted (mark_room (length xs)) all) × (zs ≡ look_list MarksFull all xs)
+      → (Err MarksFull ≡ counted (mark_room (length xs)) all) × (zs ≡ look_list (Err MarksFull) all xs)
   unfolding counted look_list
   answer-full h e z =
       let more : room < length all = omega (arith, l.coming.number) in
       (rw (← e, lt-ltb room (length all) more), z ∙ rw l.coming.kept)
 
   pub answer-marks : count ≤ room → room ≡ mark_room (length xs)
-      → (Marks count ≡ counted (mark_room (length xs)) all) × (ys ≡ look_list (Marks count) all xs)
+      → (Ok count ≡ counted (mark_room (length xs)) all) × (ys ≡ look_list (Ok count) all xs)
   unfolding counted look_list
   answer-marks h e = ⊎_elim (λ q. all_came (coming-none l.coming q)) (λ q. absurd (not-le_of_lt q h)) l.why
     where
-      all_came : Added marks room 0 xs all count ys → (Marks count ≡ counted (mark_room (length xs)) all) × (ys ≡ look_list (Marks count) all xs)
+      all_came : Added marks room 0 xs all count ys → (Ok count ≡ counted (mark_room (length xs)) all) × (ys ≡ look_list (Ok count) all xs)
       all_came a =
           let n : length all ≡ count = omega (arith, a.number) in
           let t : ltb room (length all) ≡ false = le-ltb room (length all) (omega arith) in

@@ -15,32 +15,29 @@ ghost use Rattle.split.specs.Said.{look_says, look_said};
 
 use cross::answer::{Crossing, Kind};
 use geom::{Point, Segment};
-use split::answer::{Looked, Mark};
+use split::answer::{LookError, Mark};
 use split::mark;
 
 // Every pair i < j of the first n segments, i target and j other, with the squared radius of snapping: their marks stand at the front of the list.
-pub fn look(work: &[i32], n: usize, radius: u64, marks: &mut [i32]) -> Looked
+pub fn look(work: &[i32], n: usize, radius: u64, marks: &mut [i32]) -> Result<usize, LookError>
     ensures value { result ≡ look_answer radius work.now n marks.old }
     ensures result_value { look_says result ≡ look_said radius work.now n marks.old }
     ensures marks_after { marks.new ≡ look_list result (marks_of radius (rows_from segments work.now 0 n)) marks.old }
 {
-    if 2048 < n {
-        return Looked::Short;
-    }
-    if work.len() < 6 * n {
-        return Looked::Short;
+    if 2048 < n || work.len() < 6 * n {
+        return Err(LookError::Short);
     }
     if faults::some_row(work, n, faults::is_off) {
-        return Looked::OffGrid;
+        return Err(LookError::OffGrid);
     }
     if faults::some_row(work, n, faults::is_point) {
-        return Looked::NoLength;
+        return Err(LookError::NoLength);
     }
     pairs(work, n, radius, marks)
 }
 
 // The look ends at once when the list is full and another mark comes; it is then cleared.
-fn pairs(work: &[i32], n: usize, radius: u64, marks: &mut [i32]) -> Looked
+fn pairs(work: &[i32], n: usize, radius: u64, marks: &mut [i32]) -> Result<usize, LookError>
     requires n_in_bounds { 6 * n ≤ length work.now }
     requires n_bound { n ≤ 2 ^ 31 }
     requires n_value { some is_off (rows_from segments work.now 0 n) ≡ false }
@@ -60,10 +57,10 @@ fn pairs(work: &[i32], n: usize, radius: u64, marks: &mut [i32]) -> Looked
         }
     }
     if room < count {
-        lists::clear_i32(marks);
-        return Looked::MarksFull;
+        marks.fill(0);
+        return Err(LookError::MarksFull);
     }
-    Looked::Marks(count)
+    Ok(count)
 }
 
 // The marks of one pair come to a list that holds `count`. Most pairs end at the first test.

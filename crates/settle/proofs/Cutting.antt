@@ -19,14 +19,13 @@ use Rattle.geom.specs.declared.Segment.{Segment}
 use Rattle.geom.specs.Limits.{work_room, mark_room}
 use Rattle.geom.specs.Rows.{segments}
 use Rattle.split.specs.declared.answer.Mark.{Mark}
-use Rattle.split.specs.declared.answer.Tidied.{Tidied}
-use Rattle.split.specs.declared.answer.Tidied.TheVariants.{Distinct}
+use Rattle.split.specs.declared.answer.TidyError.{TidyError}
 use Rattle.split.specs.Marks.{marks}
 use Rattle.split.specs.Look.{look, tidy, mark_order, same_mark}
 use Rattle.split.specs.Tidied.{tidy_answer, tidy_list}
 use Rattle.split.specs.Chain.{split}
-use Rattle.apply.specs.declared.Applied.{Applied}
-use Rattle.apply.specs.declared.Applied.TheVariants.{Pieces, Full}
+use Rattle.apply.specs.declared.ApplyError.{ApplyError}
+use Rattle.apply.specs.declared.ApplyError.TheVariants.{Full}
 use Rattle.apply.specs.Answer.{in_order, apply_answer, apply_list, outcome}
 use Rattle.apply.proofs.Back.{number-split}
 use Rattle.std.specs.Prelude.{Result, Ok, Err}
@@ -74,11 +73,11 @@ module _ {L : List Segment} {zs : List ℤ} {count : ℕ} (k : Marked L zs count
   number : length ms ≡ count
   number = sym (ap length k.marks) ∙ length-rows marks zs 0 count
 
-  pub is_distinct : {t : Tidied} → t ≡ tidy_answer zs count → t ≡ Distinct (length (tidy ms))
+  pub is_distinct : {t : Result ℕ TidyError} → t ≡ tidy_answer zs count → t ≡ Ok (length (tidy ms))
   unfolding tidy_answer
   is_distinct e = e ∙ rw (le-ltb (mark_room (length zs)) count k.room, k.marks)
 
-  pub is_tidy : {t : Tidied} {n : ℕ} {ys : List ℤ} → t ≡ Distinct n → ys ≡ tidy_list t zs count → Tidy L ys
+  pub is_tidy : {t : Result ℕ TidyError} {n : ℕ} {ys : List ℤ} → t ≡ Ok n → ys ≡ tidy_list t zs count → Tidy L ys
   unfolding tidy_list
   is_tidy {ys = ys} e f =
       let ss = sort mark_order ms in
@@ -91,14 +90,18 @@ module _ {L : List Segment} {zs : List ℤ} {count : ℕ} (k : Marked L zs count
         rows = rw y (rows-front marks (front marks zs ss) (tidy ms));
       }
 
-  pub never_short : {t : Tidied} → t ≡ tidy_answer zs count → ((k : ℕ) → t ≡ Distinct k → ⊥) → ⊥
-  never_short e h = h _ (is_distinct e)
+  pub never_short : {t : Result ℕ TidyError} {e : TidyError} → t ≡ tidy_answer zs count → t ≡ Err e → ⊥
+  never_short e h = let d = is_distinct e in cc
 
 -- ---- splitting
 
-of_pieces : (b : Bool) (k : ℕ) {p : ℕ} → cond b Full (Pieces k) ≡ Pieces p → (b ≡ false) × (p ≡ k)
-of_pieces true k h = absurd (let z : ◌≡◌ {A = ℕ} 0 1 = cc in omega arith)
+of_pieces : (b : Bool) (k : ℕ) {p : ℕ} → ◌≡◌ {A = Result ℕ ApplyError} (cond b (Err Full) (Ok k)) (Ok p) → (b ≡ false) × (p ≡ k)
+of_pieces true k h = cc
 of_pieces false k h = (refl, cc)
+
+of_full : (b : Bool) (k : ℕ) {e : ApplyError} → ◌≡◌ {A = Result ℕ ApplyError} (cond b (Err Full) (Ok k)) (Err e) → b ≡ true
+of_full true k h = refl
+of_full false k h = cc
 
 -- the pieces of a look at L stand at the front of a list as long as xs
 pub record Split (L : List Segment) (xs : List ℤ) (l p : ℕ) : Type 0 where
@@ -121,12 +124,12 @@ module _ (xs : List ℤ) (m : ℕ) (kept : Kept xs m) where
     ordered : in_order m (rows_from marks zs 0 n) ≡ true
     ordered = rw t.rows (subst (λ k. in_order k (tidy (look radius L)) ≡ true) (length-rows segments xs 0 m) (tidy_in_order (all_map (λ v s. s.good.0) kept.sound)))
 
-    applied : {r : Applied} → r ≡ apply_answer xs m zs n → r ≡ cond over Full (Pieces (m + n))
+    applied : {r : Result ℕ ApplyError} → r ≡ apply_answer xs m zs n → r ≡ cond over (Err Full) (Ok (m + n))
     unfolding apply_answer outcome
     applied e =
         e ∙ rw (le-ltb (work_room (length xs)) m kept.room, le-ltb (mark_room (length zs)) n t.room, ordered, clear (all_map (λ v. sound-near) kept.sound), length-rows segments xs 0 m)
 
-    pub is_split : {r : Applied} {p : ℕ} {ys : List ℤ} → r ≡ apply_answer xs m zs n → r ≡ Pieces p → ys ≡ apply_list r xs m zs n → Split L ys (length xs) p
+    pub is_split : {r : Result ℕ ApplyError} {p : ℕ} {ys : List ℤ} → r ≡ apply_answer xs m zs n → r ≡ Ok p → ys ≡ apply_list r xs m zs n → Split L ys (length xs) p
     unfolding apply_list
     is_split {p = p} {ys = ys} e f g =
         let h = of_pieces over (m + n) (sym (applied e) ∙ f) in
@@ -141,12 +144,8 @@ module _ (xs : List ℤ) (m : ℕ) (kept : Kept xs m) where
           rows = rw (y, h.1 ∙ sym c) (rows-front segments xs (cut L));
         }
 
-    pub is_full : {r : Applied} → r ≡ apply_answer xs m zs n → ((p : ℕ) → r ≡ Pieces p → ⊥) → over ≡ true
-    is_full e h = go over (λ p q. h p (applied e ∙ q))
-      where
-        go : (b : Bool) → ((p : ℕ) → cond b Full (Pieces (m + n)) ≡ Pieces p → ⊥) → b ≡ true
-        go true h = refl
-        go false h = absurd (h _ refl)
+    pub is_full : {r : Result ℕ ApplyError} {e : ApplyError} → r ≡ apply_answer xs m zs n → r ≡ Err e → over ≡ true
+    is_full e h = of_full over (m + n) (sym (applied e) ∙ h)
 
   pub refuses_8 : over ≡ true → (f : List Segment → Ran) → split_at (work_room (length xs)) L f ≡ refused WorkFull
   unfolding split_at

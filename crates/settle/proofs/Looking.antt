@@ -17,8 +17,9 @@ use Rattle.geom.specs.declared.Segment.{Segment}
 use Rattle.geom.specs.Limits.{segment_limit, work_room, mark_room}
 use Rattle.geom.specs.Rows.{segments}
 use Rattle.split.specs.declared.answer.Mark.{Mark}
-use Rattle.split.specs.declared.answer.Looked.{Looked}
-use Rattle.split.specs.declared.answer.Looked.TheVariants.{Marks, MarksFull}
+use Rattle.std.specs.Prelude.{Result, Ok, Err}
+use Rattle.split.specs.declared.answer.LookError.{LookError}
+use Rattle.split.specs.declared.answer.LookError.TheVariants.{MarksFull}
 use Rattle.split.specs.Marks.{marks}
 use Rattle.split.specs.Look.{look}
 use Rattle.split.specs.Looked.{counted, look_answer}
@@ -29,9 +30,13 @@ use Rattle.settle.specs.Kept.{Kept, Marked}
 use Rattle.settle.specs.Step.{split_at}
 use Rattle.settle.proofs.Sound.{clear, sound_on, sound-long}
 
-of_marks : (b : Bool) (n : ℕ) {k : ℕ} → cond b MarksFull (Marks n) ≡ Marks k → (b ≡ false) × (k ≡ n)
-of_marks true n h = absurd (let z : ◌≡◌ {A = ℕ} 0 1 = cc in omega arith)
+of_marks : (b : Bool) (n : ℕ) {k : ℕ} → ◌≡◌ {A = Result ℕ LookError} (cond b (Err MarksFull) (Ok n)) (Ok k) → (b ≡ false) × (k ≡ n)
+of_marks true n h = cc
 of_marks false n h = (refl, cc)
+
+of_full : (b : Bool) (n : ℕ) {e : LookError} → ◌≡◌ {A = Result ℕ LookError} (cond b (Err MarksFull) (Ok n)) (Err e) → b ≡ true
+of_full true n h = refl
+of_full false n h = cc
 
 module _ (xs : List ℤ) (m : ℕ) (kept : Kept xs m) where
   abbrev L : List Segment
@@ -44,29 +49,25 @@ module _ (xs : List ℤ) (m : ℕ) (kept : Kept xs m) where
     abbrev full : Bool
     full = ltb (mark_room (length zs)) (length ms)
 
-    looked : {r : Looked} → r ≡ look_answer radius xs m zs → r ≡ cond full MarksFull (Marks (length ms))
+    looked : {r : Result ℕ LookError} → r ≡ look_answer radius xs m zs → r ≡ cond full (Err MarksFull) (Ok (length ms))
     unfolding look_answer counted
     looked e =
         let few = le-ltb segment_limit m (omega (arith, kept.room)) in
         let rows = le-ltb (length xs) (6 * m) (omega (arith, kept.room)) in
         e ∙ rw (few, rows, clear (all_map (λ v. sound_on) kept.sound), clear (all_map (λ v. sound-long) kept.sound))
 
-    is_full : {r : Looked} → r ≡ look_answer radius xs m zs → ((k : ℕ) → r ≡ Marks k → ⊥) → full ≡ true
-    is_full e h = go full (λ k q. h k (looked e ∙ q))
-      where
-        go : (b : Bool) → ((k : ℕ) → cond b MarksFull (Marks (length ms)) ≡ Marks k → ⊥) → b ≡ true
-        go true h = refl
-        go false h = absurd (h _ refl)
+    is_full : {r : Result ℕ LookError} {e : LookError} → r ≡ look_answer radius xs m zs → r ≡ Err e → full ≡ true
+    is_full e h = of_full full (length ms) (sym (looked e) ∙ h)
 
     -- the look yields so many marks, and there is room for them
     pub record Found (count : ℕ) : Type 0 where
       pub fits : full ≡ false
       pub number : count ≡ length ms
 
-    pub found : {r : Looked} {count : ℕ} → r ≡ look_answer radius xs m zs → r ≡ Marks count → Found count
+    pub found : {r : Result ℕ LookError} {count : ℕ} → r ≡ look_answer radius xs m zs → r ≡ Ok count → Found count
     found e f = let h = of_marks full (length ms) (sym (looked e) ∙ f) in record { fits = h.0; number = h.1 }
 
-    pub is_marked : {r : Looked} {count : ℕ} {ys : List ℤ} → Found count → r ≡ Marks count → ys ≡ look_list r ms zs → Marked L ys count
+    pub is_marked : {r : Result ℕ LookError} {count : ℕ} {ys : List ℤ} → Found count → r ≡ Ok count → ys ≡ look_list r ms zs → Marked L ys count
     unfolding look_list
     is_marked {count = count} {ys = ys} h f g =
         let room = ltb-false (mark_room (length zs)) (length ms) h.fits in
@@ -90,7 +91,7 @@ module _ (xs : List ℤ) (m : ℕ) (kept : Kept xs m) where
         abbrev not_empty : eqb (length L) 0 ≡ false
         not_empty = ne_eqb (length L) 0 (λ e. some (sym (length-rows segments xs 0 m) ∙ e))
 
-        pub refuses_7 : {r : Looked} → r ≡ look_answer radius xs m zs → ((k : ℕ) → r ≡ Marks k → ⊥) → comes ≡ refused Full
+        pub refuses_7 : {r : Result ℕ LookError} {e : LookError} → r ≡ look_answer radius xs m zs → r ≡ Err e → comes ≡ refused Full
         unfolding look_at
         refuses_7 e h = rw (not_empty, is_full e h)
 

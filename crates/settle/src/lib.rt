@@ -56,7 +56,7 @@ fn advance(
             looks: made,
         }));
     }
-    let split::answer::Looked::Marks(count) = pairwise::look(work, m, 2, marks) else {
+    let Ok(count) = pairwise::look(work, m, 2, marks) else {
         return Err(Refusal::MarksFull);
     };
     if count == 0 {
@@ -79,10 +79,10 @@ fn cut(work: &mut [i32], m: usize, marks: &mut [i32], count: usize) -> Result<us
     ensures err { IfErr result (λ r. (next : List Seg → Ran) → split_at (work_room (length work.old)) (rows_from segments work.old 0 m) next ≡ refused r) }
     ensures still_kept { IfOk result (Kept work.new) }
 {
-    let split::answer::Tidied::Distinct(k) = split::tidy::tidy(marks, count) else {
+    let Ok(k) = split::tidy::tidy(marks, count) else {
         return Err(Refusal::WorkFull);
     };
-    let apply::Applied::Pieces(p) = apply::apply(work, m, marks, k) else {
+    let Ok(p) = apply::apply(work, m, marks, k) else {
         return Err(Refusal::WorkFull);
     };
     let Ok(rows) = steps::join(work, p) else {

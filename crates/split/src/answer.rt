@@ -1,4 +1,4 @@
-// What a mark is, and what a look and tidying answer.
+// What a mark is, and why a look or tidying is refused.
 use geom::Point;
 
 // Segment number `segment` is cut at `point`. In order by the segment, then by the point.
@@ -8,10 +8,9 @@ pub struct Mark {
     pub point: Point,
 }
 
-// What a look answers: how many marks it yields.
-#[derive(Clone, Copy)]
-pub enum Looked {
-    Marks(usize),
+// Why a look is refused.
+#[derive(Clone, Copy, Debug, PartialEq, Eq)]
+pub enum LookError {
     // More than 2,048 segments, or the list has not so many (1).
     Short,
     // A coordinate off the grid (3).
@@ -22,10 +21,9 @@ pub enum Looked {
     MarksFull,
 }
 
-// What tidying answers: how many marks are left.
-#[derive(Clone, Copy)]
-pub enum Tidied {
-    Distinct(usize),
+// Why nothing is tidied.
+#[derive(Clone, Copy, Debug, PartialEq, Eq)]
+pub enum TidyError {
     // The list has not so many marks (1).
     Short,
 }

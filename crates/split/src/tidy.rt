@@ -7,20 +7,20 @@ ghost use Rattle.split.specs.Look.{same_mark};
 ghost use Rattle.split.specs.Tidied.{tidy_answer, tidy_list};
 ghost use Rattle.split.specs.Said.{tidy_says, tidy_said};
 
-use crate::answer::Tidied;
+use crate::answer::TidyError;
 use crate::mark;
 
-// The first `count` marks, sorted by segment, x and y, lose their repeats where they stand.
-pub fn tidy(marks: &mut [i32], count: usize) -> Tidied
+// The first `count` marks, sorted by segment, x and y, lose their repeats where they stand: how many are left.
+pub fn tidy(marks: &mut [i32], count: usize) -> Result<usize, TidyError>
     ensures value { result ≡ tidy_answer marks.old count }
     ensures result_value { tidy_says result ≡ tidy_said marks.old count }
     ensures marks_after { marks.new ≡ tidy_list result marks.old count }
 {
     if rooms::mark_room(marks.len()) < count {
-        return Tidied::Short;
+        return Err(TidyError::Short);
     }
     rows::sort(marks, count, 3);
-    Tidied::Distinct(drop_repeats(marks, count))
+    Ok(drop_repeats(marks, count))
 }
 
 // Each mark that differs from the one before it, in place: `kept` marks are written, and those from i on are as they were.

@@ -1,8 +1,8 @@
 -- `look` meets its contract: each test in turn is the definition's, and a list that passes them all goes to `pairs`.
 use mathlib.Core.Path.{◌≡◌, refl, sym, ◌∙◌}
-use mathlib.Core.Bool.{false, ◌||◌}
+use mathlib.Core.Bool.{true, false, ◌||◌}
 use native.Mathlib.Omega.{arith}
-use Prim.Native.Nat.{◌*◌}
+use Prim.Native.Nat.{ℕ, ◌*◌}
 use borrow.Author.Tests.{lt-ltb, le-ltb}
 use lib.Dec.{ltb}
 use lib.ListN.{length}
@@ -12,11 +12,12 @@ use borrow.Author.Rules.{rules}
 use Rattle.faults.specs.Faults.{some, is_off, is_point}
 use Rattle.split.specs.Looked.{look_answer}
 use Rattle.pairwise.specs.Listed.{look_list}
-use Rattle.split.specs.declared.answer.Looked.{Looked}
-use Rattle.split.specs.declared.answer.Looked.TheVariants.{Short, OffGrid, NoLength}
+use Rattle.std.specs.Prelude.{Result, Err}
+use Rattle.split.specs.declared.answer.LookError.{LookError}
+use Rattle.split.specs.declared.answer.LookError.TheVariants.{Short, OffGrid, NoLength}
 use Rattle.split.specs.Said.{look_says, look_said, also-looked}
 use Rattle.pairwise.proofs.look.Goals as goal
-use Rattle.pairwise.proofs.look.Goals.{Start, Else-some_row, Else-work-n}
+use Rattle.pairwise.proofs.look.Goals.{Start, Else-some_row, Else-work-n, then-n-gt2048-via-then-n-gt2048, then-n-gt2048-via-else-n-gt2048+then-work-n}
 
 long_enough : (c : Else-work-n) → let a = c.args in (ltb 2048 a.n || ltb (length a.work.now) (6 * a.n)) ≡ false
 long_enough c = rw (le-ltb 2048 c.args.n (omega arith), le-ltb _ _ c.if-work-n.false)
@@ -25,7 +26,7 @@ none_off : (c : Else-some_row) → let a = c.args in some is_off (rows_from segm
 none_off c = sym (c.some_row.ensures is_off (λ v r h. search rules)) ∙ c.if-some_row.false
 
 -- what the value says in numbers follows from the value
-said : (c : Start) {r : Looked} → let a = c.args in
+said : (c : Start) {r : Result ℕ LookError} → let a = c.args in
     r ≡ look_answer a.radius a.work.now a.n a.marks.now → look_says r ≡ look_said a.radius a.work.now a.n a.marks.now
 said c v = let a = c.args in (also-looked a.radius a.work.now a.n a.marks.now (v, tt {0})).1.0
 
@@ -33,22 +34,20 @@ pub returns-then-n-gt2048 : goal.returns-then-n-gt2048
 unfolding look_answer look_list
 returns-then-n-gt2048 c =
     let a = c.args in
-    let v : Short ≡ look_answer a.radius a.work.now a.n a.marks.now = rw (lt-ltb 2048 a.n c.if-n-gt2048.true) in
+    let s : (ltb 2048 a.n || ltb (length a.work.now) (6 * a.n)) ≡ true =
+    elim c.then-n-gt2048.branch [
+      | then-n-gt2048-via-then-n-gt2048 w ↦ rw (lt-ltb 2048 a.n w.if-n-gt2048.true)
+      | then-n-gt2048-via-else-n-gt2048+then-work-n w ↦ rw (le-ltb 2048 a.n w.if-n-gt2048.false, lt-ltb _ _ w.if-work-n.true)
+    ] in
+    let v : Err Short ≡ look_answer a.radius a.work.now a.n a.marks.now = rw s in
     record { value = v; result_value = said (goal.at.returns-then-n-gt2048 c).Start v; marks_after = refl }
-
-pub returns-then-work-n : goal.returns-then-work-n
-unfolding look_answer look_list
-returns-then-work-n c =
-    let a = c.args in
-    let v : Short ≡ look_answer a.radius a.work.now a.n a.marks.now = rw (le-ltb 2048 a.n c.if-n-gt2048.false, lt-ltb _ _ c.if-work-n.true) in
-    record { value = v; result_value = said (goal.at.returns-then-work-n c).Start v; marks_after = refl }
 
 pub returns-then-some_row : goal.returns-then-some_row
 unfolding look_answer look_list
 returns-then-some_row c =
     let a = c.args in
     let l = long_enough (goal.at.returns-then-some_row c).Else-work-n in
-    let v : OffGrid ≡ look_answer a.radius a.work.now a.n a.marks.now = rw (l, sym (c.some_row.ensures is_off (λ v r h. search rules)) ∙ c.if-some_row.true) in
+    let v : Err OffGrid ≡ look_answer a.radius a.work.now a.n a.marks.now = rw (l, sym (c.some_row.ensures is_off (λ v r h. search rules)) ∙ c.if-some_row.true) in
     record { value = v; result_value = said (goal.at.returns-then-some_row c).Start v; marks_after = refl }
 
 pub returns-then-some_row-2 : goal.returns-then-some_row-2
@@ -57,7 +56,7 @@ returns-then-some_row-2 c =
     let a = c.args in
     let l = long_enough (goal.at.returns-then-some_row-2 c).Else-work-n in
     let o = none_off (goal.at.returns-then-some_row-2 c).Else-some_row in
-    let v : NoLength ≡ look_answer a.radius a.work.now a.n a.marks.now = rw (l, o, sym (c.some_row-2.ensures is_point (λ v r h. search rules)) ∙ c.if-some_row-2.true) in
+    let v : Err NoLength ≡ look_answer a.radius a.work.now a.n a.marks.now = rw (l, o, sym (c.some_row-2.ensures is_point (λ v r h. search rules)) ∙ c.if-some_row-2.true) in
     record { value = v; result_value = said (goal.at.returns-then-some_row-2 c).Start v; marks_after = refl }
 
 pub pairs-requires : goal.pairs-requires

@@ -5,6 +5,7 @@ use mathlib.Core.Logic.{inl, inr}
 use Prim.Native.Nat.{◌+◌, ◌-◌, ◌*◌, ◌≤◌}
 use native.Mathlib.Nat.{sub-zero}
 use native.Mathlib.Omega.{arith}
+use borrow.Author.Rules.{rules}
 use lib.ListN.{length}
 use Rattle.whole.specs.AppendLaws.{coming-all, coming-none, coming-under}
 use Rattle.whole.proofs.AppendLaws.{coming-step}
@@ -69,7 +70,7 @@ left c =
 
 pub returns-then-room-count-2 : goal.returns-then-room-count-2
 returns-then-room-count-2 c =
-    let p = answer-full (left (goal.at.returns-then-room-count-2 c).Left-pairs) c.if-room-count-2.true c.mark_room-room.ensures c.clear_i32.ensures in
+    let p = answer-full (left (goal.at.returns-then-room-count-2 c).Left-pairs) c.if-room-count-2.true c.mark_room-room.ensures (search rules) in
     record { value = p.0; marks_after = p.1 }
 
 pub returns : goal.returns
