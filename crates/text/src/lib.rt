@@ -1,5 +1,6 @@
 #![tactic(auto)]
 // An answer as text, put into a list of bytes as far as there is room. Every function answers the place behind what it puts.
+// `out` and `at` stay two parameters: a struct of them would hold a loan, and every function would have to promise besides that it is the same loan.
 ghost use Rattle.std.specs.Prelude.{◌∷◌, [], ◌≡◌, ◌+◌, ◌*◌, ◌≤◌, nat_abs, length};
 ghost use Rattle.whole.specs.Kind.{row_at};
 ghost use Rattle.geom.specs.Rows.{segments};
@@ -89,7 +90,7 @@ fn number(out: &mut [u8], at: usize, z: i32) -> usize
     decimal(out, at, n, 20)
 }
 
-// The decimal digits of a number that has at most k.
+// The decimal digits of a number that has at most k. By hand: std's `write!` says what it wrote only where it is `Ok`, and `write` cannot fail.
 fn decimal(out: &mut [u8], at: usize, n: u64, k: usize) -> usize
     requires at_bound { at ≤ 1000300 }
     requires k_bound { k ≤ 20 }
