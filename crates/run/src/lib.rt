@@ -17,6 +17,7 @@ use checks::{Fault, Settings};
 use overlay::answer::{Answer, Refusal};
 
 // The overlay of the first n segments of the input, which is never written. 1 to 6 change nothing, 7 to 11 set every other list to zero.
+#[tactic(auto, unfolding(overlay::specs::Outcome::outcome, overlay::specs::Outcome::unless))]
 pub fn overlay(
     input: &[i32],
     settings: Settings,
@@ -39,6 +40,7 @@ pub fn overlay(
 }
 
 // The run of an input that passed the checks.
+// Four parameters and no struct of them: tried, and the proof of `ending::finish` did not close.
 fn run(
     input: &[i32],
     settings: Settings,
