@@ -24,6 +24,7 @@ pub fn clear(work: &mut [i32], marks: &mut [i32], scan: &mut [i64], masks: &mut 
 }
 
 // The sweep of the rows that are settled: 11, or the edges and their bytes.
+// Four parameters and no struct of them: tried, and the borrow check of this function did not close, since it lends three of the lists at once.
 pub fn finish(
     settings: Settings,
     settled: Settled,

@@ -32,6 +32,7 @@ pub fn overlay(
 }
 
 // The run of an input that passed the checks.
+// Four parameters and no struct of them: tried, and the proof of `ending::finish` did not close.
 fn run(
     input: &[i32],
     settings: Settings,
