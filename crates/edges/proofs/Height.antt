@@ -1,20 +1,18 @@
 -- Where a point lies by an edge's line, as an ordering, and what follows for the edge that starts there; the derived tests of points and coordinates.
 use Rattle.std.specs.Prelude.{◌≡◌, refl, Bool, true, false, not, cond, ℤ, pos, ◌<ℤ◌, Some}
 use Rattle.std.specs.Int.Signed.{lt_z}
-use Rattle.std.specs.Ordering.{partial_le, partial_ordering_then, is_some_and, is_le, is_lt, is_gt, is_eq, int_cmp}
-use Rattle.std.proofs.Common.{Less, Equal, Greater, sym, ap, ◌∙◌}
+use Rattle.std.specs.Ordering.{partial_le, partial_ordering_then, is_some_and, is_le, is_gt, is_eq, int_cmp}
+use Rattle.std.proofs.Common.{Less, Equal, Greater}
 use Rattle.whole.specs.Sign.{Tri, less, same, more}
 use Rattle.whole.proofs.SignLaws.{tri}
 use Rattle.whole.specs.Test.{tests}
-use Rattle.whole.proofs.TestLaws.{lt_of}
 use Rattle.geom.specs.Plane.{before, against, sameZ}
 use Rattle.geom.specs.declared.Coord.{Coord}
 use Rattle.geom.specs.declared.Point.{Point}
 use Rattle.geom.specs.declared.Segment.{Segment}
 use Rattle.geom.specs.contracts.CoordPartialEq.TheImpl.{eq-value}
 use Rattle.geom.specs.contracts.PointPartialOrd.TheImpl.{partial_cmp-value}
-use Rattle.edges.specs.Below.{under, under_at, over, level, height_at}
-use Rattle.edges.proofs.Under.{lies_under, lies_over, by_slope}
+use Rattle.edges.specs.Below.{over, level, height_at}
 
 -- ---- points and coordinates
 
@@ -69,26 +67,8 @@ is_gt-cmp h = go (tri h (pos 0))
     go (same k) = simp tests
     go (more k) = simp tests
 
-is_lt-cmp : (h : ℤ) → is_lt (int_cmp h (pos 0)) ≡ lt_z h (pos 0)
-is_lt-cmp h = go (tri h (pos 0))
-  where
-    go : Tri h (pos 0) → is_lt (int_cmp h (pos 0)) ≡ lt_z h (pos 0)
-    go (less k) = simp tests
-    go (same k) = simp tests
-    go (more k) = simp tests
-
 pub is_gt_height : (t : Segment) (p : Point) → is_gt (height_at t p) ≡ over t p
 is_gt_height t p = is_gt-cmp (against t p)
 
 pub is_eq_height : (t : Segment) (p : Point) → is_eq (height_at t p) ≡ level t p
 is_eq_height t p = equal (against t p) (pos 0)
-
-module _ (t e : Segment) where
-  pub when_over : height_at t e.a ≡ Greater → under t e ≡ true
-  when_over h = lies_under t e (lt_of (sym (is_gt-cmp (against t e.a)) ∙ ap is_gt h))
-
-  pub when_level : height_at t e.a ≡ Equal → under t e ≡ under_at t e
-  when_level h = by_slope t e (sym (equal (against t e.a) (pos 0)) ∙ ap is_eq h)
-
-  pub when_short : height_at t e.a ≡ Less → under t e ≡ false
-  when_short h = lies_over t e (lt_of (sym (is_lt-cmp (against t e.a)) ∙ ap is_lt h))

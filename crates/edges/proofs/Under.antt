@@ -10,7 +10,7 @@ use Rattle.whole.proofs.RingLaws.{ring}
 use Rattle.whole.specs.Sign.{Tri, less, same as level, more}
 use Rattle.whole.proofs.SignLaws.{tri}
 use Rattle.whole.specs.Test.{is_false, tests, lt-true, lt_gt, le-true}
-use Rattle.whole.proofs.TestLaws.{of_true, and_l, and_r, lt_not, eq_z_is, eq_z-true}
+use Rattle.whole.proofs.TestLaws.{of_true, and_l, and_r, lt_not, eq_z-true}
 use Rattle.geom.specs.declared.Segment.{Segment}
 use Rattle.geom.specs.Plane.{turn, against, upright, sameZ, before, by_x}
 use Rattle.geom.specs.Tests.{when_false}
@@ -58,10 +58,9 @@ module _ (t e : Segment) where
   turns =
       ring (t.a.x.0 ∷ t.a.y.0 ∷ t.b.x.0 ∷ t.b.y.0 ∷ e.a.x.0 ∷ e.a.y.0 ∷ e.b.x.0 ∷ e.b.y.0 ∷ []) (search reads depth 20 fits 5000) tt
 
-  pub by_slope : sameZ (against t e.a) (pos 0) ≡ true → under t e ≡ under_at t e
+  pub lies_on : against t e.a ≡ pos 0 → under t e ≡ under_at t e
   unfolding under lower
-  by_slope q =
-      let z : against t e.a ≡ pos 0 = eq_z_is q in
+  lies_on z =
       let s : lean t e ≡ against t e.b = omega (zz, turns, add_is (lean t e) (against t e.a)) in
       rw s (simp tests)
 

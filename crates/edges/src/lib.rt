@@ -33,17 +33,18 @@ fn is_alive(t: Segment, x: Coord) -> bool
 }
 
 // The turn at e.a decides, unless e.a lies on t's line: then e's slope does.
-#[tactic(auto, using(crate::proofs::Height::when_over, crate::proofs::Height::when_level, crate::proofs::Height::when_short))]
+#[tactic(auto, using(crate::proofs::Under::lies_under, crate::proofs::Under::lies_on, crate::proofs::Under::lies_over))]
 fn is_under(t: Segment, e: Segment) -> bool
     requires grid_segment { GridSegment t }
     requires grid_segment_2 { GridSegment e }
     ensures { result ≡ under t e }
 {
-    match height_at(t, e.a) {
-        Ordering::Greater => true,
-        Ordering::Equal => is_under_at(t, e),
-        Ordering::Less => false,
+    // Tried with a match on `height_at`: the sweep is slower by 7 % then, over the bar of 5 %.
+    let height = turns::turn(t.a, t.b, e.a);
+    if height < 0 {
+        return false;
     }
+    0 < height || is_under_at(t, e)
 }
 
 // Whether p lies over t's line, on it or under it.
