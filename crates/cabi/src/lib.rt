@@ -1,8 +1,6 @@
 #![tactic(auto)]
 // The library for C and Rust: a slice goes over as a pointer and a length, a struct by value.
-ghost use Rattle.std.specs.Prelude.{◌≡◌, ◌+◌, ◌≤◌, length};
-ghost use Rattle.geom.specs.Rows.{point_from};
-ghost use Rattle.cross.specs.Cross.{bit};
+ghost use Rattle.std.specs.Prelude.{◌≡◌, ◌+◌, ◌≤◌, length, Some, Ok};
 ghost use Rattle.cross.specs.Said.{only, cross_says, cross_said};
 ghost use Rattle.overlay.specs.Outcome.{outcome};
 ghost use Rattle.ending.specs.Lent.{lent};
@@ -10,7 +8,7 @@ ghost use Rattle.cabi.specs.Overlay.{settings_of, handed, told};
 ghost use Rattle.cabi.specs.Crossing.{segment_from, at_point, report_of, cross_report};
 
 use checks::Settings;
-use cross::answer::{Cross, Crossing, Kind};
+use cross::answer::{Cross, CrossError, Kind};
 use geom::{Coord, Count, Point, Segment};
 use report::Report;
 
@@ -52,15 +50,16 @@ pub extern "C" fn ciwetanos_overlay(
 
 // Eight numbers: target a, b, other a, b, at the squared radius 2. Another length is answered 1, a coordinate off the grid 3, a segment without length 4.
 #[unsafe(no_mangle)]
+#[tactic(auto, using(std::proofs::lemmas::Bool::Decides::nat_tests), unfolding(crate::specs::Crossing::cross_report))]
 pub extern "C" fn ciwetanos_cross(pair: &[i32]) -> CrossReport
     ensures { result ≡ cross_report pair.now }
 {
-    if pair.len() == 8 {
-        let target = segment_from(pair, 0);
-        let other = segment_from(pair, 4);
-        return reported(target, other);
+    if pair.len() != 8 {
+        return plain(1);
     }
-    plain(1)
+    let target = segment_from(pair, 0);
+    let other = segment_from(pair, 4);
+    reported(target, other)
 }
 
 // The segment whose four numbers start at place k.
@@ -68,24 +67,17 @@ fn segment_from(pair: &[i32], k: usize) -> Segment
     requires { k + 4 ≤ length pair.now }
     ensures { result ≡ segment_from pair.now k }
 {
-    let a = point_from(pair, k);
-    let b = point_from(pair, k + 2);
-    let none = Count(0);
     Segment {
-        a,
-        b,
-        subject: none,
-        clip: none,
-    }
-}
-
-fn point_from(pair: &[i32], k: usize) -> Point
-    requires { k + 2 ≤ length pair.now }
-    ensures { result ≡ point_from pair.now k }
-{
-    Point {
-        x: Coord(pair[k]),
-        y: Coord(pair[k + 1]),
+        a: Point {
+            x: Coord(pair[k]),
+            y: Coord(pair[k + 1]),
+        },
+        b: Point {
+            x: Coord(pair[k + 2]),
+            y: Coord(pair[k + 3]),
+        },
+        subject: Count(0),
+        clip: Count(0),
     }
 }
 
@@ -93,10 +85,10 @@ fn reported(target: Segment, other: Segment) -> CrossReport
     ensures { result ≡ report_of (cross_said 2 target other) }
 {
     match pairs::cross(target, other, 2) {
-        Crossing::Found(c) => found(target, other, c),
-        Crossing::Nothing => plain(0),
-        Crossing::OffGrid => plain(3),
-        Crossing::NoLength => plain(4),
+        Ok(Some(c)) => found(target, other, c),
+        Ok(None) => plain(0),
+        Err(CrossError::OffGrid) => plain(3),
+        Err(CrossError::NoLength) => plain(4),
     }
 }
 
@@ -115,10 +107,9 @@ fn plain(answer: u64) -> CrossReport
 }
 
 fn found(target: Segment, other: Segment, c: Cross) -> CrossReport
-    ensures { result ≡ report_of (cross_says target other (Crossing.Found c)) }
+    ensures { result ≡ report_of (cross_says target other (Ok (Some c))) }
 {
-    let kind = c.kind;
-    match kind {
+    match c.kind {
         Kind::Pure => at(1, c.point, c.rounded, 0),
         Kind::TargetEnd => at(2, c.point, c.rounded, 0),
         Kind::OtherEnd => at(3, c.point, c.rounded, 0),
@@ -132,24 +123,9 @@ fn at(kind: u64, p: Point, rounded: bool, mask: u8) -> CrossReport
     CrossReport {
         answer: 0,
         kind,
-        x: gaps::wide(p.x.0),
-        y: gaps::wide(p.y.0),
-        rounded: bit_of(rounded),
-        mask: wide(mask),
+        x: i64::from(p.x.0),
+        y: i64::from(p.y.0),
+        rounded: u64::from(rounded),
+        mask: u64::from(mask),
     }
-}
-
-fn bit_of(b: bool) -> u64
-    ensures { result ≡ bit b }
-{
-    if b {
-        return 1;
-    }
-    0
-}
-
-fn wide(mask: u8) -> u64
-    ensures { result ≡ mask }
-{
-    mask as u64
 }

@@ -1,7 +1,7 @@
 -- What comes of any two segments, by how they meet, and for every radius: all on one line, overlaid; kept apart by the signs, nothing; otherwise a point that is
 -- an end of one or the middle point, and no end of a segment that it marks ("Crossing"). With at most one zero, no end of the segment that is marked lies on
 -- the other's line; in the middle no end does.
-use Rattle.std.specs.Prelude.{◌≡◌, Bool, cond, ◌||◌, ◌≢◌, ℕ, ◌+◌, ◌≤◌, ◌<◌, min, ltb, eqb, ℤ, pos, nat_abs, ◌-ℤ◌}
+use Rattle.std.specs.Prelude.{◌≡◌, Bool, cond, ◌||◌, ◌≢◌, ℕ, ◌+◌, ◌≤◌, ◌<◌, min, ltb, eqb, ℤ, pos, nat_abs, ◌-ℤ◌, None}
 use Rattle.std.proofs.Math.Path.{refl}
 use Rattle.std.proofs.Common.{ap, ◌∙◌, arith, eqb-true, leb-false, ltb-false}
 use Rattle.std.proofs.Math.Bool.{true, false}
@@ -17,7 +17,6 @@ use Rattle.plane.specs.Apart.{o₁, o₂}
 use Rattle.plane.specs.Meeting.{collinear, none, touching, crossing as through, meeting_by, meeting}
 use Rattle.plane.specs.NoEnd.{NoEnd, NoZero, parted_no_zero, line_no_end}
 use Rattle.plane.proofs.NoEndLaws.{a_no_end, b_no_end}
-use Rattle.cross.specs.declared.answer.Crossing.TheVariants.{Nothing}
 use Rattle.cross.specs.declared.answer.Kind.TheVariants.{Pure, TargetEnd, OtherEnd, Overlay}
 use Rattle.cross.specs.Cross.{found, on_line, on_both, far, nearer, reach, snapped, middle, cross_point, zero, origin, cross_by, crossing}
 use Rattle.cross.specs.Middle.{Middle, Sides}
@@ -140,7 +139,7 @@ by_outcome radius {t} {o} {s1} {s2} {s3} {s4} s = go (eqb zeros 4) (ltb 1 zeros 
     zeros = zero s1 + zero s2 + zero s3 + zero s4
 
     go : (b c : Bool) → (ltb 1 zeros || (eqb s1 s2 || eqb s3 s4)) ≡ c
-        → Outcome t o (cond b collinear (cond c none (cond (eqb zeros 1) touching through))) (cond b (found origin Overlay false) (cond c Nothing (ends radius t o s1 s2 s3 s4)))
+        → Outcome t o (cond b collinear (cond c none (cond (eqb zeros 1) touching through))) (cond b (found origin Overlay false) (cond c None (ends radius t o s1 s2 s3 s4)))
     go true c e = overlaid
     go false true e = nothing
     go false false e =

@@ -1,13 +1,13 @@
 -- What a crossing answers, in document 01's numbers ("Input and answer", "Crossing"): of any two segments 3 off the grid, then 4 without length, otherwise 0 and how they cross.
-use Rattle.std.specs.Prelude.{◌≡◌, refl, Bool, true, false, cond, ◌&&◌, ℕ, ℤ, pos}
-use Rattle.std.proofs.Common.{ap, ◌∙◌}
+use Rattle.std.specs.Prelude.{cond, ◌&&◌, ℕ, ℤ, pos, Option, Some, None, Result, Ok, Err}
 use Rattle.geom.specs.declared.Segment.{Segment}
 use Rattle.geom.specs.Plane.{grid_segment}
 use Rattle.cross.specs.declared.answer.Kind.{Kind}
 use Rattle.cross.specs.declared.answer.Kind.TheVariants.{Pure, TargetEnd, OtherEnd, Overlay}
-use Rattle.cross.specs.declared.answer.Crossing.{Crossing}
-use Rattle.cross.specs.declared.answer.Crossing.TheVariants.{Found, Nothing, OffGrid, NoLength}
-use Rattle.cross.specs.Cross.{bit, collinear_mask, crossing, has_length, cross_any}
+use Rattle.cross.specs.declared.answer.Cross.{Cross}
+use Rattle.cross.specs.declared.answer.CrossError.{CrossError}
+use Rattle.cross.specs.declared.answer.CrossError.TheVariants.{OffGrid, NoLength}
+use Rattle.cross.specs.Cross.{bit, collinear_mask, crossing, has_length}
 
 -- the number of the table; the kind; the point; 1 if it was rounded; which ends mark the other where all lie on one line
 pub record Said : Type 0 where
@@ -36,25 +36,14 @@ mask_of OtherEnd m = 0
 mask_of Overlay m = m
 
 -- number and values of each answer about two segments
-abbrev pub cross_says : Segment → Segment → Crossing → Said
-cross_says t o (Found c) =
+abbrev pub cross_says : Segment → Segment → Result (Option Cross) CrossError → Said
+cross_says t o (Ok (Some c)) =
     record { answer = 0; kind = kind_number c.kind; x = c.point.x.0; y = c.point.y.0; rounded = bit c.rounded; mask = mask_of c.kind (collinear_mask t o) }
-cross_says t o Nothing = only 0
-cross_says t o OffGrid = only 3
-cross_says t o NoLength = only 4
+cross_says t o (Ok None) = only 0
+cross_says t o (Err OffGrid) = only 3
+cross_says t o (Err NoLength) = only 4
 
 unfoldable pub cross_said : ℕ → Segment → Segment → Said
 cross_said radius t o =
-    let r = cross_says t o (crossing radius t o) in
+    let r = cross_says t o (Ok (crossing radius t o)) in
     cond (grid_segment t && grid_segment o) (cond (has_length t && has_length o) r (only 4)) (only 3)
-
--- the answer, and its numbers
-pub also-said : (radius : ℕ) (t o : Segment) (r : Crossing) → r ≡ cross_any radius t o → (r ≡ cross_any radius t o) × (cross_says t o r ≡ cross_said radius t o)
-unfolding cross_any cross_said
-also-said radius t o r e =
-    (e, ap (λ (s : Crossing). cross_says t o s) e ∙ by_tests (grid_segment t && grid_segment o) (has_length t && has_length o) (crossing radius t o))
-  where
-    by_tests : (g l : Bool) (c : Crossing) → cross_says t o (cond g (cond l c NoLength) OffGrid) ≡ cond g (cond l (cross_says t o c) (only 4)) (only 3)
-    by_tests true true c = refl
-    by_tests true false c = refl
-    by_tests false l c = refl

@@ -1,4 +1,7 @@
 // What a crossing is.
+ghost use Rattle.std.specs.Prelude.{◌≡◌, Some};
+ghost use Rattle.cross.specs.Cross.{found};
+
 use geom::Point;
 
 #[derive(Clone, Copy)]
@@ -20,10 +23,21 @@ pub struct Cross {
     pub rounded: bool,
 }
 
-#[derive(Clone, Copy)]
-pub enum Crossing {
-    Found(Cross),
-    Nothing,
+impl Cross {
+    pub fn at(point: Point, kind: Kind, rounded: bool) -> Cross
+        ensures { Some result ≡ found point kind rounded }
+    {
+        Cross {
+            point,
+            kind,
+            rounded,
+        }
+    }
+}
+
+// Why a pair has no answer.
+#[derive(Clone, Copy, PartialEq, Eq)]
+pub enum CrossError {
     // A coordinate off the grid (3).
     OffGrid,
     // A segment with a = b (4).

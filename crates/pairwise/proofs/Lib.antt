@@ -1,4 +1,3 @@
--- In reading order: the mask's bits as marks, pairs without a mark and the pair loops.
+-- In reading order: the mask's bits as marks, and the pair loops.
 pub mod MaskBits
-pub mod NoMark
 pub mod Looking

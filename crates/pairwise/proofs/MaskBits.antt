@@ -1,18 +1,10 @@
--- The marks of collinear segments are one for each bit of the mask, and a bit brings at most one.
+-- The bits of the mask are the four tests of the definition.
 use mathlib.Core.Path.{◌≡◌, refl}
 use mathlib.Core.Bool.{Bool, true, false}
-use mathlib.Core.List.{List}
-use Prim.Native.Nat.{ℕ, ◌+◌, ◌*◌, ◌/◌, ◌%◌, ◌≤◌}
-use native.Mathlib.Omega.{arith}
+use Prim.Native.Nat.{ℕ, ◌+◌, ◌*◌, ◌/◌, ◌%◌}
 use lib.Dec.{eqb}
-use lib.IntN.{ℤ}
-use lib.ListN.{length}
-use Rattle.whole.specs.Append.{Added}
 use Rattle.geom.specs.declared.Segment.{Segment}
-use Rattle.split.specs.declared.answer.Mark.{Mark}
 use Rattle.cross.specs.Cross.{bit, inner, collinear_mask}
-use Rattle.split.specs.Marks.{marks}
-use Rattle.split.specs.Look.{one}
 
 -- the tests that the code makes of a mask
 pub record Bits (m : ℕ) (a b c d : Bool) : Type 0 where
@@ -42,11 +34,3 @@ bits false false false false = record { first = refl; second = refl; third = ref
 pub mask_bits : (t o : Segment) → Bits (collinear_mask t o) (inner o t.a) (inner o t.b) (inner t o.a) (inner t o.b)
 unfolding collinear_mask
 mask_bits t o = bits (inner o t.a) (inner o t.b) (inner t o.a) (inner t o.b)
-
-length-one : (t : Bool) (m : Mark) → length (one t m) ≤ 1
-unfolding one
-length-one true m = omega arith
-length-one false m = omega arith
-
-pub added_one : {room count : ℕ} {xs : List ℤ} (t : Bool) (m : Mark) {r : ℕ} {ys : List ℤ} → Added marks room count xs (one t m) r ys → r ≤ count + 1
-added_one t m a = omega (arith, a.number, length-one t m)

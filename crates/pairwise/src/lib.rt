@@ -13,10 +13,23 @@ ghost use Rattle.split.specs.Looked.{counted, look_answer};
 ghost use Rattle.pairwise.specs.Listed.{look_list};
 ghost use Rattle.split.specs.Said.{look_says, look_said};
 
-use cross::answer::{Crossing, Kind};
+use cross::answer::Kind;
 use geom::{Point, Segment};
 use split::answer::{LookError, Mark};
 use split::mark;
+
+// Two segments of the list and their numbers.
+#[derive(Clone, Copy)]
+struct Couple {
+    i: usize,
+    j: usize,
+    target: Segment,
+    other: Segment,
+    ghost i_bound: { i < 2 ^ 31 },
+    ghost j_bound: { j < 2 ^ 31 },
+    ghost grid_target: { GridSegment target },
+    ghost grid_other: { GridSegment other },
+}
 
 // Every pair i < j of the first n segments, i target and j other, with the squared radius of snapping: their marks stand at the front of the list.
 pub fn look(work: &[i32], n: usize, radius: u64, marks: &mut [i32]) -> Result<usize, LookError>
@@ -50,7 +63,13 @@ fn pairs(work: &[i32], n: usize, radius: u64, marks: &mut [i32]) -> Result<usize
         let target = places::read(work, i);
         for j in i + 1..n {
             let other = places::read(work, j);
-            count = pair(i, j, target, other, radius, marks, room, count);
+            let couple = Couple {
+                i,
+                j,
+                target,
+                other,
+            };
+            count = pair(couple, radius, marks, room, count);
             if room < count {
                 break 'pairs;
             }
@@ -64,81 +83,53 @@ fn pairs(work: &[i32], n: usize, radius: u64, marks: &mut [i32]) -> Result<usize
 }
 
 // The marks of one pair come to a list that holds `count`. Most pairs end at the first test.
-fn pair(
-    i: usize,
-    j: usize,
-    target: Segment,
-    other: Segment,
-    radius: u64,
-    marks: &mut [i32],
-    room: usize,
-    count: usize,
-) -> usize
-    requires grid_segment { GridSegment target }
-    requires grid_segment_2 { GridSegment other }
+// List, room and count stay three parameters: a struct that held the `&mut` list would owe in each contract that it still holds this list and room, two clauses for two parameters.
+#[tactic(auto, using(whole::specs::AppendLaws::added_none, cross::specs::Sides::one_side), unfolding(split::specs::Look::cross_marks))]
+fn pair(couple: Couple, radius: u64, marks: &mut [i32], room: usize, count: usize) -> usize
     requires room_in_bounds { 3 * room ≤ length marks.old }
     requires count_le_room { count ≤ room }
-    requires i_bound { i < 2 ^ 31 }
-    requires j_bound { j < 2 ^ 31 }
-    ensures { Added mark_rows room count marks.old (pair_marks radius i j target other) result marks.new }
+    ensures { Added mark_rows room count marks.old (pair_marks radius couple.i couple.j couple.target couple.other) result marks.new }
 {
-    if misses::one_side(target, other) {
+    if misses::one_side(couple.target, couple.other) {
         return count;
     }
-    crossed(i, j, target, other, radius, marks, room, count)
+    crossed(couple, radius, marks, room, count)
 }
 
 // The marks of a pair by its crossing.
-fn crossed(
-    i: usize,
-    j: usize,
-    target: Segment,
-    other: Segment,
-    radius: u64,
-    marks: &mut [i32],
-    room: usize,
-    count: usize,
-) -> usize
-    requires grid_segment { GridSegment target }
-    requires grid_segment_2 { GridSegment other }
+#[tactic(auto, using(whole::specs::AppendLaws::added_none), unfolding(split::specs::Look::cross_marks, split::specs::Look::kind_marks))]
+fn crossed(couple: Couple, radius: u64, marks: &mut [i32], room: usize, count: usize) -> usize
     requires room_in_bounds { 3 * room ≤ length marks.old }
     requires count_le_room { count ≤ room }
-    requires i_bound { i < 2 ^ 31 }
-    requires j_bound { j < 2 ^ 31 }
-    ensures { Added mark_rows room count marks.old (pair_marks radius i j target other) result marks.new }
+    ensures { Added mark_rows room count marks.old (pair_marks radius couple.i couple.j couple.target couple.other) result marks.new }
 {
-    let Crossing::Found(c) = crossings::crossing(target, other, radius) else {
+    let Some(c) = crossings::crossing(couple.target, couple.other, radius) else {
         return count;
     };
     let p = c.point;
-    let kind = c.kind;
-    match kind {
+    match c.kind {
         Kind::Pure => {
-            let next = push(marks, room, count, i, p);
-            push(marks, room, next, j, p)
+            let next = push(marks, room, count, couple.i, p);
+            push(marks, room, next, couple.j, p)
         }
-        Kind::TargetEnd => push(marks, room, count, j, p),
-        Kind::OtherEnd => push(marks, room, count, i, p),
-        Kind::Overlay => overlay(i, j, target, other, marks, room, count),
+        Kind::TargetEnd => push(marks, room, count, couple.j, p),
+        Kind::OtherEnd => push(marks, room, count, couple.i, p),
+        Kind::Overlay => overlay(couple, marks, room, count),
     }
 }
 
 // Collinear segments: a mark for each bit of the mask.
-fn overlay(
-    i: usize,
-    j: usize,
-    target: Segment,
-    other: Segment,
-    marks: &mut [i32],
-    room: usize,
-    count: usize,
-) -> usize
+fn overlay(couple: Couple, marks: &mut [i32], room: usize, count: usize) -> usize
     requires room_in_bounds { 3 * room ≤ length marks.old }
     requires count_le_room { count ≤ room }
-    requires i_bound { i < 2 ^ 31 }
-    requires j_bound { j < 2 ^ 31 }
-    ensures { Added mark_rows room count marks.old (line_marks i j target other) result marks.new }
+    ensures { Added mark_rows room count marks.old (line_marks couple.i couple.j couple.target couple.other) result marks.new }
 {
+    let Couple {
+        i,
+        j,
+        target,
+        other,
+    } = couple;
     let mask = lines::collinear(target, other);
     let c1 = push_if(mask % 2 == 1, marks, room, count, j, target.a);
     let c2 = push_if(mask / 2 % 2 == 1, marks, room, c1, j, target.b);
@@ -146,6 +137,7 @@ fn overlay(
     push_if(mask / 8 % 2 == 1, marks, room, c3, i, other.b)
 }
 
+#[tactic(auto, using(whole::specs::AppendLaws::added_none), unfolding(split::specs::Look::one))]
 fn push_if(
     hit: bool,
     marks: &mut [i32],
@@ -157,7 +149,8 @@ fn push_if(
     requires room_in_bounds { 3 * room ≤ length marks.old }
     requires count_bound { count ≤ room + 3 }
     requires segment_bound { segment < 2 ^ 31 }
-    ensures { Added mark_rows room count marks.old (one hit (mark_at segment p)) result marks.new }
+    ensures added { Added mark_rows room count marks.old (one hit (mark_at segment p)) result marks.new }
+    ensures one_more { result ≤ count + 1 }
 {
     if hit {
         return push(marks, room, count, segment, p);
@@ -166,6 +159,7 @@ fn push_if(
 }
 
 // Mark number `count`: counted always, and kept if there is room for it.
+#[tactic(auto, using(std::proofs::lemmas::Bool::Decides::nat_tests, std::proofs::lemmas::Int::to_z_pos), unfolding(whole::specs::Append::put_all, whole::specs::Append::put_next))]
 fn push(marks: &mut [i32], room: usize, count: usize, segment: usize, p: Point) -> usize
     requires room_in_bounds { 3 * room ≤ length marks.old }
     requires count_bound { count ≤ room + 3 }
@@ -175,9 +169,8 @@ fn push(marks: &mut [i32], room: usize, count: usize, segment: usize, p: Point) 
     if room <= count {
         return count + 1;
     }
-    let number = segment as i32;
     let m = Mark {
-        segment: number,
+        segment: segment as i32,
         point: p,
     };
     mark::write(marks, count, m);

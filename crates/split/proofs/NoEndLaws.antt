@@ -1,6 +1,6 @@
 -- Every mark of a pair names one of the two, its point is no end of that segment and on the grid; for every radius ("Crossing"). And the end that a middle point is
 -- moved to never lies on the other line, so that there is nothing to skip.
-use Rattle.std.specs.Prelude.{◌≡◌, refl, Bool, true, false, cond, ◌||◌, ◌≢◌, ℕ, ltb, pos}
+use Rattle.std.specs.Prelude.{◌≡◌, refl, Bool, true, false, cond, ◌||◌, ◌≢◌, ℕ, ltb, pos, Option}
 use Rattle.std.proofs.Common.{subst}
 use Rattle.whole.specs.Sum.{All, none, also}
 use Rattle.whole.proofs.SumLaws.{all_append}
@@ -12,7 +12,7 @@ use Rattle.geom.specs.Tests.{when_true}
 use Rattle.geom.proofs.TestsLaws.{between?}
 use Rattle.plane.specs.Meeting.{Meeting}
 use Rattle.plane.specs.NoEnd.{NoEnd, NoZero, parted_no_zero}
-use Rattle.cross.specs.declared.answer.Crossing.{Crossing}
+use Rattle.cross.specs.declared.answer.Cross.{Cross}
 use Rattle.split.specs.declared.answer.Mark.{Mark}
 use Rattle.cross.specs.Cross.{inner, far, nearer}
 use Rattle.cross.specs.Middle.{Middle}
@@ -55,13 +55,13 @@ module _ (i j : ℕ) (t o : Segment) where
       (all_one (inner t o.a) (mark i o.a) (λ e. of_target o_a (inner_no_end t o.a e))))
       (all_one (inner t o.b) (mark i o.b) (λ e. of_target o_b (inner_no_end t o.b e)))
 
-  of_marked : {c : Crossing} → Marked t o c → All (MarkOf i j t o) (cross_marks i j t o c)
+  of_marked : {c : Option Cross} → Marked t o c → All (MarkOf i j t o) (cross_marks i j t o c)
   unfolding cross_marks kind_marks
   of_marked (both p h k) = also (of_target p h) (also (of_other p k) none)
   of_marked (on_other p h) = also (of_other p h) none
   of_marked (on_target p h) = also (of_target p h) none
 
-  of_outcome : {m : Meeting} {c : Crossing} → Outcome t o m c → All (MarkOf i j t o) (cross_marks i j t o c)
+  of_outcome : {m : Meeting} {c : Option Cross} → Outcome t o m c → All (MarkOf i j t o) (cross_marks i j t o c)
   unfolding cross_marks kind_marks
   of_outcome overlaid = line-marks
   of_outcome nothing = none

@@ -1,5 +1,5 @@
 -- The marks of a look ("The run", "Crossing"): for every pair i < j in list order, i is target and j other.
-use Rattle.std.specs.Prelude.{Bool, true, false, cond, List, [], ◌∷◌, ◌++◌, ℕ, suc, pos}
+use Rattle.std.specs.Prelude.{Bool, true, false, cond, List, [], ◌∷◌, ◌++◌, ℕ, suc, pos, Option, Some, None}
 use Rattle.std.specs.Int.Signed.{lt_z}
 use Rattle.whole.specs.Lex.{lex}
 use Rattle.whole.specs.Sorting.{sort}
@@ -9,8 +9,7 @@ use Rattle.geom.specs.declared.Segment.{Segment}
 use Rattle.geom.specs.Plane.{sameZ, same_point}
 use Rattle.cross.specs.declared.answer.Kind.{Kind}
 use Rattle.cross.specs.declared.answer.Kind.TheVariants.{Pure, TargetEnd, OtherEnd, Overlay}
-use Rattle.cross.specs.declared.answer.Crossing.{Crossing}
-use Rattle.cross.specs.declared.answer.Crossing.TheVariants.{Found, Nothing, OffGrid, NoLength}
+use Rattle.cross.specs.declared.answer.Cross.{Cross}
 use Rattle.split.specs.declared.answer.Mark.{Mark}
 use Rattle.split.specs.Marks.{numbers}
 use Rattle.cross.specs.Cross.{inner, crossing}
@@ -36,11 +35,9 @@ kind_marks i j t o p OtherEnd = mark i p ∷ []
 kind_marks i j t o p Overlay = line_marks i j t o
 
 -- a pair that doesn't cross gives no mark
-unfoldable pub cross_marks : ℕ → ℕ → Segment → Segment → Crossing → List Mark
-cross_marks i j t o (Found c) = kind_marks i j t o c.point c.kind
-cross_marks i j t o Nothing = []
-cross_marks i j t o OffGrid = []
-cross_marks i j t o NoLength = []
+unfoldable pub cross_marks : ℕ → ℕ → Segment → Segment → Option Cross → List Mark
+cross_marks i j t o (Some c) = kind_marks i j t o c.point c.kind
+cross_marks i j t o None = []
 
 abbrev pub pair_marks : ℕ → ℕ → ℕ → Segment → Segment → List Mark
 pair_marks radius i j t o = cross_marks i j t o (crossing radius t o)

@@ -1,5 +1,5 @@
 -- Different forward segments yield no mark exactly if they are `Apart`, for every radius: a look without marks is a settled list.
-use Rattle.std.specs.Prelude.{◌≡◌, refl, Bool, not, cond, ◌||◌, List, [], ◌∷◌, ◌++◌, ◌↔◌, ℕ}
+use Rattle.std.specs.Prelude.{◌≡◌, refl, Bool, not, cond, ◌||◌, List, [], ◌∷◌, ◌++◌, ◌↔◌, ℕ, Option}
 use Rattle.std.proofs.Math.Bool.{true, false}
 use Rattle.std.proofs.Common.{arith}
 use Rattle.whole.proofs.TestLaws.{or_false}
@@ -14,7 +14,7 @@ use Rattle.plane.specs.Meeting.{Meeting, touching, crossing as through}
 use Rattle.plane.specs.Pierce.{Different}
 use Rattle.plane.specs.Unmarked.{inside, some_inside, no_mark, unmarked}
 use Rattle.plane.proofs.UnmarkedLaws.{unmarked?}
-use Rattle.cross.specs.declared.answer.Crossing.{Crossing}
+use Rattle.cross.specs.declared.answer.Cross.{Cross}
 use Rattle.split.specs.declared.answer.Mark.{Mark}
 use Rattle.cross.specs.Cross.{inner}
 use Rattle.split.specs.Look.{mark, one, line_marks, kind_marks, cross_marks, pair_marks}
@@ -67,7 +67,7 @@ module _ (i j : ℕ) (t o : Segment) (ft : Before t.a t.b) (fo : Before o.a o.b)
 
   -- ---- by the outcome
 
-  of_marked : {c : Crossing} (one : Bool) → Marked t o c → NoMark (cross_marks i j t o c) (no_mark (cond one touching through) (some_inside t o))
+  of_marked : {c : Option Cross} (one : Bool) → Marked t o c → NoMark (cross_marks i j t o c) (no_mark (cond one touching through) (some_inside t o))
   unfolding cross_marks kind_marks
   of_marked true (both p h k) = full
   of_marked true (on_other p h) = full
@@ -76,7 +76,7 @@ module _ (i j : ℕ) (t o : Segment) (ft : Before t.a t.b) (fo : Before o.a o.b)
   of_marked false (on_other p h) = full
   of_marked false (on_target p h) = full
 
-  of_outcome : {m : Meeting} {c : Crossing} → Outcome t o m c → NoMark (cross_marks i j t o c) (no_mark m (some_inside t o))
+  of_outcome : {m : Meeting} {c : Option Cross} → Outcome t o m c → NoMark (cross_marks i j t o c) (no_mark m (some_inside t o))
   unfolding cross_marks kind_marks
   of_outcome overlaid = on_line
   of_outcome nothing = empty

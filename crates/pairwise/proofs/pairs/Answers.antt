@@ -23,11 +23,15 @@ pairs-init c = (omega arith, omega arith, rw (sub-zero c.args.n) coming-all)
 pub loop-j-init : goal.loop-j-init
 loop-j-init c = (omega arith, omega arith, omega arith, omega arith, coming-all)
 
+pub invariant_of-couple : goal.invariant_of-couple
+invariant_of-couple c =
+    let g = each_on_grid c.args.work.now c.args.n c.requires.n_value in
+    record { i_bound = omega arith; j_bound = omega arith; grid_target = rw c.read-target.ensures (g c.pairs.i (omega arith)); grid_other = rw c.read-other.ensures (g c.loop-j.j (omega arith)) }
+
 pub pair-count-requires : goal.pair-count-requires
 pair-count-requires c =
-    let g = each_on_grid c.args.work.now c.args.n c.requires.n_value in
     let f : 3 * c.mark_room-room.result ≤ length c.args.marks.now = rw c.mark_room-room.ensures (room_fits (length c.args.marks.now)) in
-    record { grid_segment = rw c.read-target.ensures (g c.pairs.i (omega arith)); grid_segment_2 = rw c.read-other.ensures (g c.loop-j.j (omega arith)); room_in_bounds = omega (arith, f); count_le_room = omega arith; i_bound = omega arith; j_bound = omega arith }
+    record { room_in_bounds = omega (arith, f); count_le_room = omega arith }
 
 pub loop-j-preserved : goal.loop-j-preserved
 loop-j-preserved c =

@@ -1,0 +1,2 @@
+-- A side on a line.
+pub mod OnLine

@@ -1,2 +1,0 @@
--- An end within the radius.
-pub mod Snap

@@ -1,0 +1,2 @@
+-- The derived comparison of orientations.
+pub mod Derived
