@@ -46,12 +46,6 @@ returns-then-room-n-2 c =
     let e = no_room x.work.now x.n x.marks.now x.count (omega arith) (omega arith) ordered least (omega arith) in
     record { value = sym e; result_value = said _ _ _ _ (sym e); work_after = search rules }
 
-pub cut_all-requires : goal.cut_all-requires
-cut_all-requires c =
-    let ordered = sym c.in_order.ensures ∙ c.if-in_order.true in
-    let least = sym c.some_fault.ensures ∙ c.if-some_fault.false in
-    record { n_bound = omega arith; count_in_bounds = search rules; count_in_bounds_2 = search rules; count_value = ordered; n_value = least }
-
 pub returns-then-in_order : goal.returns-then-in_order
 unfolding apply_list
 returns-then-in_order c =
