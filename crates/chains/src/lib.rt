@@ -12,6 +12,7 @@ use geom::{Coord, Point, Segment};
 use split::mark;
 
 // The pieces of v, cut at the marks of a run, become the rows from number `at` on.
+// The size stands beside the run: derived from it, each clause would speak of `length run.now / 3`, which is no plainer.
 pub fn cut(work: &mut [i32], at: usize, v: Segment, run: &[i32], size: usize)
     requires countable { Countable v.subject }
     requires countable_2 { Countable v.clip }

@@ -73,9 +73,6 @@ loop-i-preserved c =
       cut_step ms x.work.now l.work x.n (l.i - 1) l.e b (omega arith) le f (own_row (goal.at.loop-i-preserved c).After-read-v) run (length-points (take (3 * l.e - 3 * b) (drop (3 * b) zs)) 0 (l.e - b)) c.cut.ensures,
     )
 
-pub shape_of-work : goal.shape_of-work
-shape_of-work c = c.loop-i.invariant.2
-
 pub returns : goal.returns
 returns c =
     let l = c.loop-i in

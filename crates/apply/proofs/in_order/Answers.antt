@@ -3,18 +3,13 @@ use mathlib.Core.Path.{◌≡◌, sym, ap, ◌∙◌}
 use mathlib.Core.Bool.{Bool}
 use Prim.Native.Nat.{ℕ}
 use Rattle.split.specs.declared.answer.Mark.{Mark}
-use native.Mathlib.Nat.{sub-zero}
 use native.Mathlib.Omega.{arith}
-use Rattle.whole.specs.Kind.{rows_from}
 use Rattle.whole.proofs.KindLaws.{rows_step, rows-done}
 use Rattle.split.specs.Marks.{marks as mark_rows}
-use Rattle.apply.specs.Answer.{names, in_order}
+use Rattle.apply.specs.Answer.{names}
 use Rattle.apply.proofs.Ordered.{not_named, not_led, ordered-later, none_unordered}
 use Rattle.apply.proofs.in_order.Goals as goal
 use Rattle.apply.proofs.in_order.Goals.{then-names, else-names}
-
-pub loop-i-init : goal.loop-i-init
-loop-i-init c = let x = c.args in (omega arith, ap (λ k. in_order x.n (rows_from mark_rows x.marks.now 0 k)) (sub-zero x.count))
 
 named : (n : ℕ) {m k : Mark} {r b : Bool} → m ≡ k → r ≡ names n m → r ≡ b → names n k ≡ b
 named n e f g = sym (ap (names n) e) ∙ sym f ∙ g

@@ -1,14 +1,11 @@
 -- `apply::run_start` meets its contract. The loop's invariant: the marks before number a have the same start of the run.
 use Prim.Native.Nat.{◌+◌, ◌-◌}
-use mathlib.Core.Path.{◌≡◌, refl, sym, ap, ◌∙◌}
+use mathlib.Core.Path.{◌≡◌, sym, ap, ◌∙◌}
 use native.Mathlib.Omega.{arith}
 use lib.IntN.{pos}
 use Rattle.geom.specs.Plane.{sameZ}
 use Rattle.apply.proofs.Runs.{start-more, start-here, start_none}
 use Rattle.apply.proofs.run_start.Goals as goal
-
-pub loop-a-init : goal.loop-a-init
-loop-a-init c = (omega arith, refl)
 
 pub returns-then-not-is_of : goal.returns-then-not-is_of
 returns-then-not-is_of c =

@@ -12,11 +12,6 @@ use Rattle.chains.specs.Steps.{points, joined}
 use Rattle.chains.proofs.Points.{points-step, points-done, joined-more, joined_stop, joined-none}
 use Rattle.chains.proofs.column_end.Goals as goal
 
-pub loop-e-init : goal.loop-e-init
-loop-e-init c =
-    let x = c.args in
-    (omega arith, omega arith, ap (λ m. x.g + 1 + joined m.point (points x.run.now (x.g + 1) (x.size - (x.g + 1)))) c.read.ensures)
-
 twice : (b : Bool) → b ≡ not (not b)
 twice true = refl
 twice false = refl

@@ -1,16 +1,14 @@
 -- `chains::cut` meets its contract. The loop's invariant: the columns that are left give, from the point before them and the next row on, the same list.
 -- A turn of the loop is one column, in the order that its neighbours decide; its marks are read in a part of the run.
-use mathlib.Core.Path.{◌≡◌, refl, sym, ap, ◌∙◌}
+use mathlib.Core.Path.{◌≡◌, sym, ap, ◌∙◌}
 use mathlib.Core.List.{reverse}
 use mathlib.Core.Bool.{cond}
 use Prim.Native.Nat.{◌+◌, ◌-◌, ◌*◌}
-use native.Mathlib.Nat.{add-zero, sub-zero}
 use native.Mathlib.Omega.{arith}
 use lib.ListN.{length, take, drop}
 use lib.Seq.{length-sets}
 use lib.Signed.{lt_z}
 use Rattle.whole.specs.Kind.{flat}
-use Rattle.whole.proofs.KindLaws.{length_put}
 use Rattle.geom.proofs.Derived.{less}
 use Rattle.geom.specs.Rows.{segments}
 use Rattle.split.specs.Chain.{columns, chain_from, pieces_from}
@@ -18,11 +16,6 @@ use Rattle.chains.specs.Steps.{points, pieces_to, taken}
 use Rattle.chains.proofs.Points.{points-done, column-split, taken-all, length_taken, part-points}
 use Rattle.chains.proofs.Pieces.{rows_at, column-step, chain-none}
 use Rattle.chains.proofs.cut.Goals as goal
-
-pub loop-g-init : goal.loop-g-init
-loop-g-init c =
-    let x = c.args in
-    (omega arith, refl, rw (add-zero x.at, sub-zero x.size))
 
 pub loop-g-preserved : goal.loop-g-preserved
 loop-g-preserved c =
@@ -41,11 +34,6 @@ loop-g-preserved c =
           (omega (arith, length_taken c.lt-back.result part (e - l.g) (e - l.g))) c.walk-p.ensures.value c.walk-p.ensures.work_after
           ∙ l.invariant.2,
     )
-
-pub shape_of-work : goal.shape_of-work
-shape_of-work c =
-    let l = c.loop-g in
-    ap length c.write.ensures ∙ simp length_put l.invariant.1
 
 pub returns : goal.returns
 unfolding columns

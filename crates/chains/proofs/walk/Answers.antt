@@ -1,9 +1,8 @@
 -- `chains::walk` meets its contract. The loop's invariant: the points that are left give, from the last one and the next row on, the same end and the same list.
-use mathlib.Core.Path.{◌≡◌, refl, sym, ap, ap₂, ◌∙◌}
+use mathlib.Core.Path.{◌≡◌, sym, ap, ap₂, ◌∙◌}
 use mathlib.Core.Bool.{cond}
 use mathlib.Core.List.{◌∷◌}
 use Prim.Native.Nat.{◌+◌, ◌-◌}
-use native.Mathlib.Nat.{add-zero, sub-zero}
 use native.Mathlib.Omega.{arith}
 use lib.ListN.{length}
 use Rattle.whole.proofs.KindLaws.{length_put}
@@ -12,9 +11,6 @@ use Rattle.chains.specs.Steps.{point_at, taken}
 use Rattle.chains.proofs.Points.{taken_step, taken_none}
 use Rattle.chains.proofs.Pieces.{piece-step, last_step, piece-none, last_none}
 use Rattle.chains.proofs.walk.Goals as goal
-
-pub loop-i-init : goal.loop-i-init
-loop-i-init c = rw (sub-zero c.args.size, add-zero c.args.at) (omega arith, refl, refl, refl)
 
 pub loop-i-preserved : goal.loop-i-preserved
 loop-i-preserved c =
@@ -32,9 +28,6 @@ loop-i-preserved c =
       last_step l.last e ∙ l.invariant.2,
       piece-step l.work (x.at + l.i) (x.at + (l.i + 1)) x.v l.last c.piece.ensures c.write.ensures (omega arith) e ∙ l.invariant.3,
     )
-
-pub shape_of-work : goal.shape_of-work
-shape_of-work c = c.loop-i.invariant.1
 
 pub returns : goal.returns
 returns c =
