@@ -11,6 +11,7 @@ use geom::Point;
 use std::cmp::Ordering;
 
 // What a node leaves: so many entries in use, and the sums of the first of them below every edge that starts here.
+// An Option is no plainer: where nothing is known, `sums_below` starts from none of the entries and no sums, as from any other first part.
 #[derive(Clone, Copy, Debug, PartialEq, Eq)]
 pub struct Node {
     pub used: usize,
