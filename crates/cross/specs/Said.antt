@@ -1,5 +1,6 @@
 -- What a crossing answers, in document 01's numbers ("Input and answer", "Crossing"): of any two segments 3 off the grid, then 4 without length, otherwise 0 and how they cross.
-use Rattle.std.specs.Prelude.{cond, ◌&&◌, ℕ, ℤ, pos, Option, Some, None, Result, Ok, Err}
+use Rattle.std.specs.Prelude.{◌≡◌, refl, Bool, true, false, cond, ◌&&◌, ℕ, ℤ, pos, Option, Some, None, Result, Ok, Err}
+use Rattle.std.proofs.Common.{ap, ◌∙◌}
 use Rattle.geom.specs.declared.Segment.{Segment}
 use Rattle.geom.specs.Plane.{grid_segment}
 use Rattle.cross.specs.declared.answer.Kind.{Kind}
@@ -7,7 +8,7 @@ use Rattle.cross.specs.declared.answer.Kind.TheVariants.{Pure, TargetEnd, OtherE
 use Rattle.cross.specs.declared.answer.Cross.{Cross}
 use Rattle.cross.specs.declared.answer.CrossError.{CrossError}
 use Rattle.cross.specs.declared.answer.CrossError.TheVariants.{OffGrid, NoLength}
-use Rattle.cross.specs.Cross.{bit, collinear_mask, crossing, has_length}
+use Rattle.cross.specs.Cross.{bit, collinear_mask, crossing, has_length, cross_any}
 
 -- the number of the table; the kind; the point; 1 if it was rounded; which ends mark the other where all lie on one line
 pub record Said : Type 0 where
@@ -47,3 +48,15 @@ unfoldable pub cross_said : ℕ → Segment → Segment → Said
 cross_said radius t o =
     let r = cross_says t o (Ok (crossing radius t o)) in
     cond (grid_segment t && grid_segment o) (cond (has_length t && has_length o) r (only 4)) (only 3)
+
+-- the answer, and its numbers
+pub also-said : (radius : ℕ) (t o : Segment) (r : Result (Option Cross) CrossError) → r ≡ cross_any radius t o
+    → (r ≡ cross_any radius t o) × (cross_says t o r ≡ cross_said radius t o)
+unfolding cross_any cross_said
+also-said radius t o r e =
+    (e, ap (λ (s : Result (Option Cross) CrossError). cross_says t o s) e ∙ by_tests (grid_segment t && grid_segment o) (has_length t && has_length o) (crossing radius t o))
+  where
+    by_tests : (g l : Bool) (c : Option Cross) → cross_says t o (cond g (cond l (Ok c) (Err NoLength)) (Err OffGrid)) ≡ cond g (cond l (cross_says t o (Ok c)) (only 4)) (only 3)
+    by_tests true true c = refl
+    by_tests true false c = refl
+    by_tests false l c = refl

@@ -2,7 +2,7 @@
 -- lies on the other's line and the sides of each couple differ.
 use Rattle.std.specs.Prelude.{◌≡◌, refl, Bool, true, false, cond, ◌&&◌, ◌||◌, ◌≢◌, ℕ, ◌+◌, ◌≤◌, ◌<◌, ltb, eqb, ℤ, nat_abs, Option, None}
 use Rattle.std.proofs.Common.{sym, subst, inl, inr, arith}
-use borrow.Author.Tests.{eq-eqb, ne_eqb, eqb-true, eqb-false}
+use borrow.Author.Tests.{eq-eqb, ne_eqb, eqb-true, eqb-false, le-ltb}
 use Rattle.whole.specs.Order.{zz, split}
 use Rattle.whole.specs.Sign.{abs_is}
 use Rattle.whole.proofs.TestLaws.{and_l, and_r, or_true, neither}
@@ -36,6 +36,13 @@ ends radius t o s1 s2 s3 s4 =
     (cond (eqb s2 1) (found o.b OtherEnd false)
     (cond (eqb s3 1) (found t.a TargetEnd false)
     (cond (eqb s4 1) (found t.b TargetEnd false) (middle radius t o (cross_point t o)))))
+
+pub by_ends : (radius : ℕ) (t o : Segment) (s1 s2 s3 s4 : ℕ) → zero s1 + zero s2 + zero s3 + zero s4 ≢ 4 → zero s1 + zero s2 + zero s3 + zero s4 ≤ 1 → s1 ≢ s2 → s3 ≢ s4
+    → cross_by radius t o s1 s2 s3 s4 ≡ ends radius t o s1 s2 s3 s4
+unfolding cross_by
+by_ends radius t o s1 s2 s3 s4 n l h k =
+    let zeros = zero s1 + zero s2 + zero s3 + zero s4 in
+    rw (ne_eqb zeros 4 n, le-ltb 1 zeros l, ne_eqb s1 s2 h, ne_eqb s3 s4 k)
 
 -- ---- both ends of other on one side, and neither on the line
 
@@ -100,3 +107,21 @@ pub parted_middle : {t o : Segment} {s1 s2 s3 s4 : ℕ} → Sides t o s1 s2 s3 s
 parted_middle {s1} {s2} {s3} {s4} s clear e =
     let n = neither (eqb s1 s2) (eqb s3 s4) e in
     middle_of s (eqb-false s1 s2 n.0) (eqb-false s3 s4 n.1) (λ z. omega arith) (λ z. omega arith) (λ z. omega arith) (λ z. omega arith)
+
+-- what the definition then comes to
+module _ (radius : ℕ) (t o : Segment) (s1 s2 s3 s4 : ℕ) (clear : zeros_of s1 s2 s3 s4 ≤ 0) where
+  pub clear-other : s1 ≡ s2 → cross_by radius t o s1 s2 s3 s4 ≡ None
+  clear-other e = equal_signs radius t o s1 s2 s3 s4 e (omega arith)
+
+  pub clear-target : s1 ≢ s2 → s3 ≡ s4 → cross_by radius t o s1 s2 s3 s4 ≡ None
+  unfolding cross_by
+  clear-target n e =
+      let zeros = zeros_of s1 s2 s3 s4 in
+      rw (ne_eqb zeros 4 (λ z. omega arith), le-ltb 1 zeros (omega arith), ne_eqb s1 s2 n, eq-eqb s3 s4 e)
+
+  pub clear-parted : Sides t o s1 s2 s3 s4 → s1 ≢ s2 → s3 ≢ s4 → Middle t o
+  clear-parted s n m = middle_of s n m (λ z. omega arith) (λ z. omega arith) (λ z. omega arith) (λ z. omega arith)
+
+  pub clear-middle : s1 ≢ s2 → s3 ≢ s4 → cross_by radius t o s1 s2 s3 s4 ≡ middle radius t o (cross_point t o)
+  clear-middle n m =
+      rw (by_ends radius t o s1 s2 s3 s4 (λ z. omega arith) (omega arith) n m, ne_eqb s1 1 (λ z. omega arith), ne_eqb s2 1 (λ z. omega arith), ne_eqb s3 1 (λ z. omega arith), ne_eqb s4 1 (λ z. omega arith))
