@@ -138,7 +138,7 @@ module _ (input : List ℤ) (s : Settings) (l : Lent) where
 
   answered : {k : ℕ} → Answers input s l k → (outcome input s l).answer.number ≡ k
   unfolding outcome unless ran joined swept
-  answered (by_check f g) = rw (fault_is (Err f) g) (fault-number f _)
+  answered (by_check f g) = rw (fault_is (Err f) g) (fault-number f (cleared l ScanFull))
   answered (by_first_9 g t) = rw (fault_is (Ok tt) g, holds (total_leaves? (sorted (map forward (L₀ input s l)))) t)
   answered (by_look g t c m) = rw (fault_is (Ok tt) g, fails (total_leaves? (sorted (map forward (L₀ input s l)))) t) (met_number _ _ s l c m 0)
 
