@@ -93,6 +93,7 @@ fn reported(target: Segment, other: Segment) -> CrossReport
 }
 
 // An answer and nothing more.
+// A number, as the C interface tells it.
 fn plain(answer: u64) -> CrossReport
     ensures { result ≡ report_of (only answer) }
 {
@@ -117,6 +118,7 @@ fn found(target: Segment, other: Segment, c: Cross) -> CrossReport
     }
 }
 
+// The kind is a number, as the C interface tells it.
 fn at(kind: u64, p: Point, rounded: bool, mask: u8) -> CrossReport
     ensures { result ≡ report_of (at_point kind p rounded mask) }
 {

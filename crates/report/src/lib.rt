@@ -22,6 +22,7 @@ impl From<Answer> for Report {
         match a {
             Ok(settled) => Report {
                 answer: 0,
+                // `as`: there is no From of usize into u64.
                 segments: settled.segments as u64,
                 looks: settled.looks as u64,
             },
@@ -34,6 +35,7 @@ impl From<Answer> for Report {
     }
 }
 
+// Beside `From`: a public function keeps its promise.
 pub fn of(a: Answer) -> Report
     ensures { result ≡ reported (told a) }
 {

@@ -64,5 +64,6 @@ fn until_settled(input: &[i32], settings: Settings, work: &mut [i32], marks: &mu
     let Ok(m) = steps::join(work, n) else {
         return Err(Refusal::TooBig);
     };
+    // `as`: there is no From of u32 into usize.
     settle::looks(work, m, marks, settings.budget as usize)
 }

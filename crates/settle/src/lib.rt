@@ -11,6 +11,7 @@ ghost use Rattle.settle.specs.Step.{goes_on, came_to, StillKept, split_at, looks
 
 use overlay::answer::{Answer, Refusal, Settled};
 
+// Not std's ControlFlow: its Continue and Break say less than these names.
 #[derive(Clone, Copy, PartialEq, Eq)]
 pub enum Step {
     // The run goes on with so many rows.

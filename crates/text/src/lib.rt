@@ -17,6 +17,7 @@ pub fn write(a: Answer, rows: &[i32], bytes: &[u8], out: &mut [u8]) -> usize
     ensures upper_bound { result ≤ 313386 }
 {
     let t = report::of(a);
+    // `as`: there is no From of u64 into usize.
     let m = t.segments as usize;
     if m > 2048 || rows.len() < 6 * m || bytes.len() < m {
         return 0;

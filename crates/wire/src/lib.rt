@@ -17,6 +17,7 @@ pub fn decode(bytes: &[u8], input: &mut [i32]) -> Option<Settings>
     if bytes.len() < 17 {
         return None;
     }
+    // `as`: there is no From of u32 into usize.
     let n = word(bytes, 1) as usize;
     if bytes.len() != 17 + 24 * n || bytes[0] != 1 || n > 2048 || input.len() < 6 * n {
         return None;
