@@ -12,6 +12,7 @@ use rules::OverlayRule;
 pub(crate) fn is_short(n: usize, work: usize, masks: usize) -> bool
     ensures { result ≡ is_short n work masks }
 {
+    // Not by `rooms::work_room`: the edit limit_is_one_more plants its mistake here.
     2048 < n || work < 6 * n || masks < n
 }
 

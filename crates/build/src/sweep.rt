@@ -48,6 +48,7 @@ impl From<rules::BadRule> for FillError {
 }
 
 // The byte of each of the n segments, for any list that is not refused, in order or not, settled or not.
+// The rules come as numbers: a caller may give any, and one that is no rule's is refused with 2.
 pub fn fill(
     work: &[i32],
     n: usize,

@@ -4,6 +4,7 @@ ghost use Rattle.std.specs.Prelude.{◌≡◌};
 ghost use Rattle.checks.specs.Checks.{is_short, is_bad, fault_of, check_says, check_said};
 
 // The number of segments; the fill rule, 0 to 3; the overlay rule, 0 to 6; the budget of looks, 1 to 64.
+// Numbers and no enums: a caller may give any, and `is_bad` refuses with 2 one that is no rule's.
 #[derive(Clone, Copy, Debug, PartialEq, Eq)]
 pub struct Settings {
     pub n: usize,
@@ -64,6 +65,7 @@ fn short(n: usize, input: usize, work: usize, masks: usize) -> bool
     2048 < n || input < 6 * n || room < n || masks < room
 }
 
+// By numbers, and not by the rules' `try_from`: the edits rule_seven_allowed and budget_zero_allowed plant their mistakes here.
 #[tactic(auto, unfolding(crate::specs::Checks::is_bad))]
 fn bad(settings: Settings) -> bool
     ensures { result ≡ is_bad settings }

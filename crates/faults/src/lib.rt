@@ -38,11 +38,12 @@ pub fn is_point(v: Segment) -> bool
     v.a == v.b
 }
 
+// The count that cannot be negated.
+const LEAST: Count = Count(i32::MIN);
+
 // 5: a count cannot be negated.
 pub fn has_least(v: Segment) -> bool
     ensures { result ≡ least v }
 {
     v.subject == LEAST || v.clip == LEAST
 }
-
-const LEAST: Count = Count(i32::MIN);

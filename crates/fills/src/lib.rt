@@ -57,6 +57,7 @@ impl FillRule {
 }
 
 // Whether a side with this sum of counts is inside by fill rule `rule`. A number over 3 is no rule: whoever takes one from outside refuses it first.
+// By the rule's number: a public function keeps its promise, for every number.
 #[tactic(auto, unfolding(crate::specs::Inside::inside))]
 pub fn inside(rule: u32, sum: i64) -> bool
     ensures { result ≡ within rule sum }

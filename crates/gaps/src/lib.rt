@@ -7,7 +7,7 @@ ghost use Rattle.geom.specs.Plane.{OnGrid};
 
 use geom::Coord;
 
-// The steps of signed sums, each with what it asks as a clause: a caller reads an equation of whole numbers, and no bits.
+// Two steps of signed sums, public functions that keep their promises; our own code writes `i64::from` and the minus sign.
 pub fn wide(x: i32) -> i64
     ensures { result ≡ x }
 {

@@ -81,6 +81,7 @@ fn segment_of(g: Group) -> Segment
     Segment {
         a: g.a,
         b: g.b,
+        // `as`: the requires says that both totals fit.
         subject: Count(g.subject as i32),
         clip: Count(g.clip as i32),
     }

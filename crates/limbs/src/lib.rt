@@ -31,6 +31,7 @@ pub fn product(a: u64, b: u64) -> Two
 {
     let product = u128::from(a) * u128::from(b);
     Two {
+        // `as`: what is divided by WORD, and what is left, fit a word.
         high: (product / WORD) as u64,
         low: (product % WORD) as u64,
     }

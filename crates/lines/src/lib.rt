@@ -14,6 +14,7 @@ fn inner(v: Segment, p: Point) -> bool
 }
 
 // Which ends lie strictly between the other's ends: target a 1, target b 2, other a 4, other b 8.
+// A number of four bits and no struct of flags: `collinear_mask` and the C interface's `mask` say it so.
 #[tactic(auto, unfolding(cross::specs::Cross::collinear_mask))]
 pub fn collinear(target: Segment, other: Segment) -> u8
     ensures { result ≡ collinear_mask target other }

@@ -60,6 +60,7 @@ impl Rules {
 }
 
 // The byte by the rules' numbers. By a fill rule over 3 nothing is inside, and so nothing is kept.
+// By numbers: a public function keeps its promise, for every fill number.
 #[tactic(auto, using(crate::proofs::NoRule::byte_by_none))]
 pub fn byte(fill: u32, rule: u32, s: Sums, e: Segment) -> u8
     requires rule_bound { rule < 7 }

@@ -21,6 +21,7 @@ fn signed(z: i64, q: u64) -> i64
     requires { q < 2 ^ 63 }
     ensures { result ≡ signed_as z q }
 {
+    // `as`: the requires says that it fits.
     let size = q as i64;
     if z < 0 { -size } else { size }
 }
@@ -40,6 +41,7 @@ fn moved(c: Coord, offset: i64) -> Coord
     requires { OnGrid (c.0 +ℤ offset) }
     ensures { result ≡ moved_by c offset }
 {
+    // `as`: the requires says that it fits.
     Coord((i64::from(c.0) + offset) as i32)
 }
 

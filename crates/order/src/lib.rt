@@ -6,6 +6,7 @@ ghost use Rattle.geom.specs.Plane.{before as is_before, between as is_between, s
 
 use geom::{Coord, Point};
 
+// Public functions that keep their promises, in the definitions' words; our own code writes the operators.
 pub fn less(a: Coord, b: Coord) -> bool
     ensures { result ≡ lt_z a.0 b.0 }
 {

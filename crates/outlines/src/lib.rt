@@ -9,6 +9,7 @@ ghost use Rattle.outlines.specs.Net.{changed_by, counted_at, net_at, is_uneven, 
 use geom::{Count, Point, Segment};
 
 // What starts at a point less what ends there.
+// Not scan's `Sums`, which stands above: `net_at` and `is_uneven` speak of this one.
 #[derive(Clone, Copy)]
 struct Net {
     subject: i64,

@@ -37,6 +37,7 @@ pub fn look(work: &[i32], n: usize, radius: u64, marks: &mut [i32]) -> Result<us
     ensures result_value { look_says result ≡ look_said radius work.now n marks.old }
     ensures marks_after { marks.new ≡ look_list result (marks_of radius (rows_from segments work.now 0 n)) marks.old }
 {
+    // Not by `rooms::work_room`: the edit limit_2049 plants its mistake here.
     if 2048 < n || work.len() < 6 * n {
         return Err(LookError::Short);
     }
@@ -169,6 +170,7 @@ fn push(marks: &mut [i32], room: usize, count: usize, segment: usize, p: Point) 
     if room <= count {
         return count + 1;
     }
+    // `as`: the requires says that it fits.
     let m = Mark {
         segment: segment as i32,
         point: p,

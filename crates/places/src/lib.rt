@@ -50,7 +50,7 @@ fn point_from(row: &[i32], k: usize) -> Point
     }
 }
 
-// Row number i.
+// Row number i: `row::read` of a segment, promised by `row_at`, which all callers cite.
 #[tactic(auto, unfolding(whole::specs::Kind::row_at))]
 pub fn read(rows: &[i32], i: usize) -> Segment
     requires { 6 * i + 6 ≤ length rows.now }
@@ -59,7 +59,7 @@ pub fn read(rows: &[i32], i: usize) -> Segment
     row::read(rows, i)
 }
 
-// The segment v becomes row number i.
+// The segment v becomes row number i: `row::write` of a segment, promised by `put_row`, which all callers cite.
 #[tactic(auto, unfolding(whole::specs::Kind::put_row))]
 pub fn write(rows: &mut [i32], i: usize, v: Segment)
     requires { 6 * i + 6 ≤ length rows.old }

@@ -64,7 +64,7 @@ impl OverlayRule {
     }
 }
 
-// Whether an overlay rule keeps an edge with this mask, by the rule's number.
+// Whether an overlay rule keeps an edge with this mask, by the rule's number: a public function keeps its promise beside the enum's.
 pub fn keeps(rule: u32, mask: u8) -> bool
     requires rule_bound { rule < 7 }
     requires mask_bound { mask < 16 }

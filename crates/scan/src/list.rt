@@ -44,6 +44,7 @@ impl Row for Entry {
     }
 }
 
+// `row::read` and `row::write` of an entry, promised by `row_at` and `put_row`, which all callers cite.
 #[tactic(auto, unfolding(whole::specs::Kind::row_at))]
 pub(crate) fn entry_at(scan: &[i64], k: usize) -> Entry
     requires { 3 * k + 3 ≤ length scan.now }
@@ -75,6 +76,7 @@ fn entry_of(i: usize, v: Segment) -> Entry
     ensures { result ≡ entry_for i v }
 {
     Entry {
+        // `as`: there is no From of usize into i64, and i is below 2,048.
         segment: i as i64,
         subject: i64::from(v.subject.0),
         clip: i64::from(v.clip.0),
@@ -87,6 +89,7 @@ pub(crate) fn named(work: &[i32], n: usize, t: Entry) -> Segment
     requires entry_of { EntryOf work.now n t }
     ensures { result ≡ named_by work.now t }
 {
+    // `as`: the requires says that an entry names a row.
     places::read(work, t.segment as usize)
 }
 

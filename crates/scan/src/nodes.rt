@@ -20,6 +20,7 @@ pub struct Node {
 }
 
 // The counts of the entries that pass under a point, and whether one passes through it.
+// No Option of sums: whether an entry passes through is known only at the end, and `with_entry` states both.
 #[derive(Clone, Copy, Debug, PartialEq, Eq)]
 struct Below {
     sums: Sums,

@@ -32,6 +32,7 @@ pub fn merge(work: &mut [i32], n: usize) -> Result<Merged, MergeError>
     ensures result_value { merge_says result ≡ merge_said work.old n }
     ensures work_after { work.new ≡ merge_list work.old n }
 {
+    // Not by `rooms::work_room`: the edits limit_doubled and one_number_short_passes plant their mistakes here.
     if 2048 < n || work.len() < 6 * n {
         return Err(MergeError::Short);
     }

@@ -34,7 +34,7 @@ impl Row for Mark {
     }
 }
 
-// Mark number i.
+// Mark number i: `row::read` of a mark, promised by `row_at`, which all callers cite.
 #[tactic(auto, unfolding(whole::specs::Kind::row_at))]
 pub fn read(marks: &[i32], i: usize) -> Mark
     requires { 3 * i + 3 ≤ length marks.now }
@@ -43,7 +43,7 @@ pub fn read(marks: &[i32], i: usize) -> Mark
     row::read(marks, i)
 }
 
-// The mark m becomes number i.
+// The mark m becomes number i: `row::write` of a mark, promised by `put_row`, which all callers cite.
 #[tactic(auto, unfolding(whole::specs::Kind::put_row))]
 pub fn write(marks: &mut [i32], i: usize, m: Mark)
     requires { 3 * i + 3 ≤ length marks.old }

@@ -14,6 +14,7 @@ pub fn total(sum: i64, c: Count) -> i64
     sum + i64::from(c.0)
 }
 
+// A public function that keeps its promise; our own code writes `z == 0`.
 pub fn zero(z: i64) -> bool
     ensures { result ≡ sameZ z (pos 0) }
 {
