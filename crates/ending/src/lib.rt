@@ -46,6 +46,6 @@ pub fn finish(
         return Err(Refusal::ScanFull);
     }
     steps::clear_behind(work, k);
-    marks.fill(0);
+    lists::clear_i32(marks);
     Ok(settled)
 }
