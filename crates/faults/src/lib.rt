@@ -4,7 +4,7 @@ ghost use Rattle.std.specs.Prelude.{Bool, ◌≡◌, ◌+◌, ◌*◌, ◌≤◌
 ghost use Rattle.whole.specs.Kind.{row_at, rows_from};
 ghost use Rattle.geom.specs.Rows.{segments};
 ghost use Rattle.geom.specs.declared.Segment.{Segment as SegmentOf};
-ghost use Rattle.faults.specs.Faults.{some, is_off as off, is_point as point, has_least as least};
+ghost use Rattle.faults.specs.Faults.{some, is_off as off, is_point as point, has_least as least, fault};
 
 use geom::{Count, Segment};
 
@@ -21,6 +21,32 @@ pub fn some_row<F: Fn(Segment) -> bool>(rows: &[i32], n: usize, test: F) -> bool
             ensures { F.post test (row_at segments rows.entry.now i) result }
         { test(places::read(rows, i)) },
     )
+}
+
+// 3 to 5: some row has the fault of that number.
+pub fn some_fault(rows: &[i32], n: usize, number: u8) -> bool
+    requires { 6 * n ≤ length rows.now }
+    ensures { result ≡ some (fault number) (rows_from segments rows.now 0 n) }
+{
+    some_row(
+        rows,
+        n,
+        |v|
+            ensures { result ≡ fault number v }
+        { has_fault(v, number) },
+    )
+}
+
+fn has_fault(v: Segment, number: u8) -> bool
+    ensures { result ≡ fault number v }
+{
+    if number == 3 {
+        return is_off(v);
+    }
+    if number == 4 {
+        return is_point(v);
+    }
+    has_least(v)
 }
 
 // 3: an end is off the grid.
