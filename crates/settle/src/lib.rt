@@ -26,6 +26,7 @@ pub fn looks(work: &mut [i32], m: usize, marks: &mut [i32], budget: usize) -> An
     requires budget_bound { budget ≤ 64 }
     ensures result_after { came_to work.new result ≡ looks_allowed (mark_room (length marks.old)) (work_room (length work.old)) budget 0 (rows_from segments work.old 0 m) }
     ensures still_kept { IfOk result (λ s. Kept work.new s.segments) }
+    ensures no_look { budget ≡ 0 → Kept work.new m }
 {
     let mut rows = m;
     for made in 0..budget {

@@ -49,7 +49,7 @@ returns-in-Settled-clause-result_after c = came (goal.at.returns-in-Settled-clau
 pub loop-made-preserved : goal.loop-made-preserved
 loop-made-preserved c =
     let kept = rw c.in-Next.is at c.in_ok-k.ensures.still_kept in
-    (omega arith, search rules, search rules, kept, came (goal.at.loop-made-preserved c).After-advance (c.in_ok-k.was ∙ ap Ok c.in-Next.is))
+    (omega arith, search rules, search rules, kept, came (goal.at.loop-made-preserved c).After-advance (c.in_ok-k.was ∙ ap Ok c.in-Next.is), λ z. absurd (omega arith))
 
 pub returns-clause-result_after : goal.returns-clause-result_after
 unfolding looks_allowed

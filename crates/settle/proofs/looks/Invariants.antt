@@ -23,6 +23,7 @@ invariant-loop-made l =
     × (length l.marks ≡ length l.initial.marks)
     × Kept l.work l.rows
     × (comes l.initial.work l.initial.marks (l.budget - l.made) l.made l.work l.rows ≡ comes l.initial.work l.initial.marks l.budget 0 l.initial.work l.m)
+    × (l.budget ≡ 0 → Kept l.work l.m)
 
 abbrev pub decreases-loop-made : goal.decreases-loop-made
 decreases-loop-made l = l.budget - l.made
