@@ -9,6 +9,13 @@ use Rattle.geom.specs.Plane.{before, same_point, sameZ}
 use Rattle.geom.specs.declared.Point.{Point}
 use Rattle.geom.specs.contracts.PointPartialOrd.TheImpl.{partial_cmp-value}
 use Rattle.geom.specs.contracts.PointPartialEq.TheImpl.{eq-value}
+use Rattle.geom.specs.contracts.SegmentPartialEq.TheImpl.{eq-value as segment_eq}
+use Rattle.geom.specs.contracts.CoordPartialEq.TheImpl.{eq-value as coord_eq}
+use Rattle.geom.specs.contracts.CountPartialEq.TheImpl.{eq-value as count_eq}
+use Rattle.geom.specs.contracts.CoordPartialOrd.TheImpl.{partial_cmp-value as coord_cmp}
+use Rattle.geom.specs.declared.Segment.{Segment}
+use Rattle.geom.specs.declared.Coord.{Coord}
+use Rattle.geom.specs.declared.Count.{Count}
 
 by_tests :
     (a b c d : Bool) →
@@ -46,3 +53,17 @@ both false b = refl
 pub eq_is_same_point : (p q : Point) → eq-value.it p q ≡ same_point p q
 unfolding same_point
 eq_is_same_point p q = rw (equal p.x.0 q.x.0, equal p.y.0 q.y.0) (both (sameZ p.x.0 q.x.0) (sameZ p.y.0 q.y.0))
+
+pub coord_eq_is_same : (a b : Coord) → coord_eq.it a b ≡ sameZ a.0 b.0
+coord_eq_is_same a b = equal a.0 b.0
+
+pub coord_lt_is_less : (a b : Coord) → partial_lt coord_cmp.it a b ≡ lt_z a.0 b.0
+coord_lt_is_less a b = less a.0 b.0
+
+pub count_eq_is_same : (a b : Count) → count_eq.it a b ≡ sameZ a.0 b.0
+count_eq_is_same a b = equal a.0 b.0
+
+-- two segments: ends and counts
+pub segment_eq_is_all_same : (s t : Segment) → segment_eq.it s t ≡ same_point s.a t.a && (same_point s.b t.b && (sameZ s.subject.0 t.subject.0 && sameZ s.clip.0 t.clip.0))
+segment_eq_is_all_same s t =
+    rw (eq_is_same_point s.a t.a, eq_is_same_point s.b t.b, equal s.subject.0 t.subject.0, equal s.clip.0 t.clip.0) refl
