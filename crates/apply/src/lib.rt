@@ -10,7 +10,7 @@ ghost use Rattle.geom.specs.Rows.{segments};
 ghost use Rattle.faults.specs.Faults.{some, has_least};
 ghost use Rattle.split.specs.Marks.{marks as mark_rows};
 ghost use Rattle.split.specs.Chain.{split as split_of};
-ghost use Rattle.apply.specs.Answer.{names as names_of, leads as leads_to, in_order, apply_answer, apply_list};
+ghost use Rattle.apply.specs.Answer.{names as names_of, earlier as is_earlier, leads as leads_to, in_order, apply_answer, apply_list};
 ghost use Rattle.apply.specs.Said.{apply_says, apply_said};
 ghost use Rattle.apply.specs.Start.{start_of};
 
@@ -65,13 +65,20 @@ fn names(m: Mark, n: usize) -> bool
     (0..n as i32).contains(&m.segment)
 }
 
+#[tactic(auto, using(crate::proofs::Derived::lt_is_earlier))]
+fn earlier(m: Mark, k: Mark) -> bool
+    ensures { result ≡ is_earlier m k }
+{
+    m < k
+}
+
 // Mark number i is earlier than the one after it.
 fn leads(marks: &[i32], i: usize, count: usize) -> bool
     requires i_lt_count { i < count }
     requires count_in_bounds { 3 * count ≤ length marks.now }
     ensures { result ≡ leads_to (row_at mark_rows marks.now i) (rows_from mark_rows marks.now (i + 1) (count - (i + 1))) }
 {
-    i + 1 == count || mark::read(marks, i) < mark::read(marks, i + 1)
+    i + 1 == count || earlier(mark::read(marks, i), mark::read(marks, i + 1))
 }
 
 fn in_order(marks: &[i32], count: usize, n: usize) -> bool

@@ -1,6 +1,7 @@
 #![tactic(auto)]
 // One segment split at the run of its marks (split/solver.rs `apply`): the chain from a through the marks to b, column by column.
 ghost use Rattle.std.specs.Prelude.{◌≡◌, cond, ◌+◌, ◌-◌, ◌*◌, ◌≤◌, ◌<◌, length};
+ghost use Rattle.std.specs.Int.Signed.{lt_z};
 ghost use Rattle.std.proofs.lemmas.List.Edits.{sets};
 ghost use Rattle.whole.specs.Kind.{flat};
 ghost use Rattle.geom.specs.Plane.{Countable};
@@ -24,7 +25,7 @@ pub fn cut(work: &mut [i32], at: usize, v: Segment, run: &[i32], size: usize)
     let mut g: usize = 0;
     while g < size {
         let e = column_end(run, g, size);
-        let back = next_y(run, e, size, v.b) < p.y;
+        let back = falls(p.y, next_y(run, e, size, v.b));
         p = walk(work, at + g, v, p, &run[3 * g..3 * e], e - g, back);
         g = e;
     }
@@ -47,6 +48,13 @@ fn column_end(run: &[i32], g: usize, size: usize) -> usize
         p = q;
     }
     size
+}
+
+// From y on to the next one, which lies lower.
+fn falls(y: Coord, next: Coord) -> bool
+    ensures { result ≡ lt_z next.0 y.0 }
+{
+    next < y
 }
 
 // The y of the point after a column: the next mark in the sorted run, or b.

@@ -4,10 +4,9 @@ use Prim.Native.Nat.{ℕ, ◌+◌, ◌-◌, ◌*◌, ◌^◌, ◌≤◌, ◌<◌
 use native.Mathlib.Nat.{mul-div-mul_right, le-div_iff_mul-le, mul-lt-mul_of_pos_right, mul-le-mul_right}
 use native.Mathlib.Omega.{arith}
 use borrow.Author.Tests.{ne_eqb}
-use Rattle.std.specs.Prelude.{Option, Some, None, Err}
-use Rattle.std.specs.Option.{SomeIff, ok_or}
+use Rattle.std.specs.Prelude.{Ok, Err, cond, ltb}
 use Rattle.limbs.specs.Limbs.{rounded_of, nearest_of}
-use Rattle.limbs.specs.Nearest.{IsNearest, rounded-nearest, answer-whole, answer_large}
+use Rattle.limbs.specs.Nearest.{IsNearest, rounded-nearest, nearest-rounded, answer_large}
 use Rattle.limbs.specs.declared.DivisionError.TheVariants.{TooLarge}
 
 pub down : (q : ℕ) {r d : ℕ} → r < d - r → IsNearest (q * d + r) d q
@@ -17,9 +16,9 @@ pub up : (q : ℕ) {r d : ℕ} → d - r ≤ r → r < d → IsNearest (q * d + 
 up q h k = record { above = omega arith; below = omega arith }
 
 -- the answer, where it is the next number up to the last word
-pub word_or_large : (o : Option ℕ) {n d q : ℕ} → SomeIff o (q < 2 ^ 64) q → 0 < d → IsNearest n d q → ok_or o TooLarge ≡ nearest_of n d
-word_or_large None h p x = sym (answer_large p x (omega arith))
-word_or_large (Some z) h p x = rw h.1 (sym (answer-whole p x h.0))
+pub word_or_large : {n d q : ℕ} → 0 < d → IsNearest n d q → cond (ltb q (2 ^ 64)) (Ok q) (Err TooLarge) ≡ nearest_of n d
+unfolding nearest_of
+word_or_large {n} {d} {q} p x = rw (ne_eqb d 0 (λ e. omega arith), nearest-rounded x)
 
 -- a high word that is not below the divisor is too large
 pub too_high : (high low d : ℕ) → 0 < d → d ≤ high → nearest_of (high * 2 ^ 64 + low) d ≡ Err TooLarge

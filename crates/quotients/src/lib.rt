@@ -1,6 +1,6 @@
 #![tactic(auto)]
 // A two-word number by a word, to the nearest: long division with digits of half a word, by a divisor raised until its top bit is set.
-ghost use Rattle.std.specs.Prelude.{◌≡◌, ◌+◌, ◌*◌, ◌^◌, ◌≤◌, ◌<◌};
+ghost use Rattle.std.specs.Prelude.{◌≡◌, cond, ltb, Ok, Err, ◌+◌, ◌*◌, ◌^◌, ◌≤◌, ◌<◌};
 ghost use Rattle.limbs.specs.Limbs.{value, two_of, quotient_of, nearest_of};
 
 use limbs::{DivisionError, Quotient, Two};
@@ -68,8 +68,15 @@ fn rounded(x: Quotient, d: u64) -> Result<u64, DivisionError>
     if x.rest < d - x.rest {
         Ok(x.whole)
     } else {
-        x.whole.checked_add(1).ok_or(DivisionError::TooLarge)
+        next(x.whole)
     }
+}
+
+// The number after it, where a word holds that.
+fn next(whole: u64) -> Result<u64, DivisionError>
+    ensures { result ≡ cond (ltb (whole + 1) (2 ^ 64)) (Ok (whole + 1)) (Err DivisionError.TooLarge) }
+{
+    whole.checked_add(1).ok_or(DivisionError::TooLarge)
 }
 
 // To the nearest, a half up. The factor sets the divisor's top bit and leaves the quotient as it is.

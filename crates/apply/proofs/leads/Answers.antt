@@ -9,7 +9,6 @@ use Rattle.whole.specs.Kind.{row_at}
 use Rattle.whole.proofs.KindLaws.{rows_step, rows-done}
 use Rattle.split.specs.Marks.{marks}
 use Rattle.apply.specs.Answer.{leads, earlier}
-use Rattle.apply.proofs.Derived.{lt_is_earlier}
 use Rattle.apply.proofs.leads.Goals as goal
 
 pub returns-then-i-count : goal.returns-then-i-count
@@ -25,7 +24,6 @@ unfolding leads
 returns-else-i-count c =
     let x = c.args in
     let zs = x.marks.now in
-    c.lt.ensures
-    ∙ lt_is_earlier _ _
+    c.earlier.ensures
     ∙ ap₂ earlier c.read.ensures c.read-else-i-count.ensures
     ∙ sym (ap (leads (row_at marks zs x.i)) (rows_step marks zs x.count (x.i + 1) (omega arith)))

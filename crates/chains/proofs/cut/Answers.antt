@@ -9,7 +9,6 @@ use lib.ListN.{length, take, drop}
 use lib.Seq.{length-sets}
 use lib.Signed.{lt_z}
 use Rattle.whole.specs.Kind.{flat}
-use Rattle.geom.proofs.Derived.{less}
 use Rattle.geom.specs.Rows.{segments}
 use Rattle.split.specs.Chain.{columns, chain_from, pieces_from}
 use Rattle.chains.specs.Steps.{points, pieces_to, taken}
@@ -26,12 +25,12 @@ loop-g-preserved c =
     let j = c.column_end-e.ensures.value in
     let inside = c.column_end-e.ensures.lower_bound in
     let part = take (3 * e - 3 * l.g) (drop (3 * l.g) zs) in
-    let t = c.lt-back.ensures ∙ less c.next_y.result.0 l.p.y.0 ∙ ap (λ y. lt_z y l.p.y.0) c.next_y.ensures in
-    let h = taken-all c.lt-back.result part (e - l.g) ∙ ap (λ ps. cond c.lt-back.result (reverse ps) ps) (part-points zs l.g e) in (
+    let t = c.falls-back.ensures ∙ ap (λ y. lt_z y l.p.y.0) c.next_y.ensures in
+    let h = taken-all c.falls-back.result part (e - l.g) ∙ ap (λ ps. cond c.falls-back.result (reverse ps) ps) (part-points zs l.g e) in (
       inside.1,
-      ap length c.walk-p.ensures.work_after ∙ length-sets l.work (6 * (x.at + l.g)) (flat segments (pieces_to x.v l.p (taken c.lt-back.result part (e - l.g) (e - l.g)))) ∙ l.invariant.1,
+      ap length c.walk-p.ensures.work_after ∙ length-sets l.work (6 * (x.at + l.g)) (flat segments (pieces_to x.v l.p (taken c.falls-back.result part (e - l.g) (e - l.g)))) ∙ l.invariant.1,
       column-step l.work (x.at + l.g) (x.at + e) x.v l.p (column-split zs x.size l.g e (omega arith) j) t h
-          (omega (arith, length_taken c.lt-back.result part (e - l.g) (e - l.g))) c.walk-p.ensures.value c.walk-p.ensures.work_after
+          (omega (arith, length_taken c.falls-back.result part (e - l.g) (e - l.g))) c.walk-p.ensures.value c.walk-p.ensures.work_after
           ∙ l.invariant.2,
     )
 

@@ -9,4 +9,4 @@ pub returns-then-x-d : goal.returns-then-x-d
 returns-then-x-d c = sym (answer-whole (omega arith) (down _ (omega arith)) (omega arith))
 
 pub returns-else-x-d : goal.returns-else-x-d
-returns-else-x-d c = c.ok_or.ensures.value ∙ word_or_large c.checked_add.result c.checked_add.ensures (omega arith) (up _ (omega arith) (omega arith))
+returns-else-x-d c = c.next.ensures ∙ word_or_large (omega arith) (up _ (omega arith) (omega arith))
