@@ -3,7 +3,8 @@
 // every number of the lists that were lent are compared with what is stored.
 use checks::Settings;
 use report::Report;
-use std::{fmt, io};
+use std::fmt;
+use std::io::{self, Write};
 
 mod read;
 
@@ -42,7 +43,8 @@ pub fn run_all<R: Input + Print>(rt: &R) -> io::Result<()> {
     let mut text = [0; 262144];
     intake::read_full(&mut rt.reader(), &mut text)?;
     let tally = replay(&text);
-    print!(rt; "{tally}")
+    // Part by part, and not by `print!`, which writes the whole at once: of an answer that there is no room for, the parts that fit are written.
+    write!(io::writer(rt), "{tally}")
 }
 
 fn replay(text: &[u8]) -> Tally {
