@@ -8,18 +8,11 @@ use geom::{Coord, Point, Segment};
 use std::cmp::Ordering;
 
 // Whether t has begun at p and does not end there, nor left of it: an upright edge never is.
-#[tactic(auto, unfolding(crate::specs::Below::live, geom::specs::Plane::before))]
+#[tactic(auto, using(crate::proofs::Height::le_is_not_before), unfolding(crate::specs::Below::live))]
 pub fn is_live(t: Segment, p: Point) -> bool
     ensures { result ≡ live p t }
 {
-    // By coordinates and not by `t.a <= p`, with which the sweep takes 1.2 of its time.
-    if p.x < t.a.x {
-        return false;
-    }
-    if p.x == t.a.x && p.y < t.a.y {
-        return false;
-    }
-    p.x < t.b.x
+    t.a <= p && p.x < t.b.x
 }
 
 // Whether t lies below e just right of e.a; of an upright e, at its a or below.
