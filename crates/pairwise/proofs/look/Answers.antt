@@ -9,7 +9,7 @@ use lib.ListN.{length}
 use Rattle.whole.specs.Kind.{rows_from}
 use Rattle.geom.specs.Rows.{segments}
 use borrow.Author.Rules.{rules}
-use Rattle.faults.specs.Faults.{some, is_off, is_point}
+use Rattle.faults.specs.Faults.{some, is_off}
 use Rattle.split.specs.Looked.{look_answer}
 use Rattle.pairwise.specs.Listed.{look_list}
 use Rattle.std.specs.Prelude.{Result, Err}
@@ -17,13 +17,13 @@ use Rattle.split.specs.declared.answer.LookError.{LookError}
 use Rattle.split.specs.declared.answer.LookError.TheVariants.{Short, OffGrid, NoLength}
 use Rattle.split.specs.Said.{look_says, look_said, also-looked}
 use Rattle.pairwise.proofs.look.Goals as goal
-use Rattle.pairwise.proofs.look.Goals.{Start, Else-some_row, Else-work-n, then-n-gt2048-via-then-n-gt2048, then-n-gt2048-via-else-n-gt2048+then-work-n}
+use Rattle.pairwise.proofs.look.Goals.{Start, Else-some_fault, Else-work-n, then-n-gt2048-via-then-n-gt2048, then-n-gt2048-via-else-n-gt2048+then-work-n}
 
 long_enough : (c : Else-work-n) → let a = c.args in (ltb 2048 a.n || ltb (length a.work.now) (6 * a.n)) ≡ false
 long_enough c = rw (le-ltb 2048 c.args.n (omega arith), le-ltb _ _ c.if-work-n.false)
 
-none_off : (c : Else-some_row) → let a = c.args in some is_off (rows_from segments a.work.now 0 a.n) ≡ false
-none_off c = sym (c.some_row.ensures is_off (λ v r h. search rules)) ∙ c.if-some_row.false
+none_off : (c : Else-some_fault) → let a = c.args in some is_off (rows_from segments a.work.now 0 a.n) ≡ false
+none_off c = sym c.some_fault.ensures ∙ c.if-some_fault.false
 
 -- what the value says in numbers follows from the value
 said : (c : Start) {r : Result ℕ LookError} → let a = c.args in
@@ -42,25 +42,25 @@ returns-then-n-gt2048 c =
     let v : Err Short ≡ look_answer a.radius a.work.now a.n a.marks.now = rw s in
     record { value = v; result_value = said (goal.at.returns-then-n-gt2048 c).Start v; marks_after = refl }
 
-pub returns-then-some_row : goal.returns-then-some_row
+pub returns-then-some_fault : goal.returns-then-some_fault
 unfolding look_answer look_list
-returns-then-some_row c =
+returns-then-some_fault c =
     let a = c.args in
-    let l = long_enough (goal.at.returns-then-some_row c).Else-work-n in
-    let v : Err OffGrid ≡ look_answer a.radius a.work.now a.n a.marks.now = rw (l, sym (c.some_row.ensures is_off (λ v r h. search rules)) ∙ c.if-some_row.true) in
-    record { value = v; result_value = said (goal.at.returns-then-some_row c).Start v; marks_after = refl }
+    let l = long_enough (goal.at.returns-then-some_fault c).Else-work-n in
+    let v : Err OffGrid ≡ look_answer a.radius a.work.now a.n a.marks.now = rw (l, sym c.some_fault.ensures ∙ c.if-some_fault.true) in
+    record { value = v; result_value = said (goal.at.returns-then-some_fault c).Start v; marks_after = refl }
 
-pub returns-then-some_row-2 : goal.returns-then-some_row-2
+pub returns-then-some_fault-2 : goal.returns-then-some_fault-2
 unfolding look_answer look_list
-returns-then-some_row-2 c =
+returns-then-some_fault-2 c =
     let a = c.args in
-    let l = long_enough (goal.at.returns-then-some_row-2 c).Else-work-n in
-    let o = none_off (goal.at.returns-then-some_row-2 c).Else-some_row in
-    let v : Err NoLength ≡ look_answer a.radius a.work.now a.n a.marks.now = rw (l, o, sym (c.some_row-2.ensures is_point (λ v r h. search rules)) ∙ c.if-some_row-2.true) in
-    record { value = v; result_value = said (goal.at.returns-then-some_row-2 c).Start v; marks_after = refl }
+    let l = long_enough (goal.at.returns-then-some_fault-2 c).Else-work-n in
+    let o = none_off (goal.at.returns-then-some_fault-2 c).Else-some_fault in
+    let v : Err NoLength ≡ look_answer a.radius a.work.now a.n a.marks.now = rw (l, o, sym c.some_fault-2.ensures ∙ c.if-some_fault-2.true) in
+    record { value = v; result_value = said (goal.at.returns-then-some_fault-2 c).Start v; marks_after = refl }
 
 pub pairs-requires : goal.pairs-requires
-pairs-requires c = record { n_in_bounds = omega arith; n_bound = omega arith; n_value = none_off (goal.at.pairs-requires c).Else-some_row }
+pairs-requires c = record { n_in_bounds = omega arith; n_bound = omega arith; n_value = none_off (goal.at.pairs-requires c).Else-some_fault }
 
 pub returns : goal.returns
 unfolding look_answer
@@ -68,6 +68,6 @@ returns c =
     let a = c.args in
     let p = c.pairs.ensures in
     let l = long_enough (goal.at.returns c).Else-work-n in
-    let o = none_off (goal.at.returns c).Else-some_row in
-    let v : c.pairs.result ≡ look_answer a.radius a.work.now a.n a.marks.now = rw (l, o, sym (c.some_row-2.ensures is_point (λ v r h. search rules)) ∙ c.if-some_row-2.false) p.value in
+    let o = none_off (goal.at.returns c).Else-some_fault in
+    let v : c.pairs.result ≡ look_answer a.radius a.work.now a.n a.marks.now = rw (l, o, sym c.some_fault-2.ensures ∙ c.if-some_fault-2.false) p.value in
     record { value = v; result_value = said (goal.at.returns c).Start v; marks_after = p.marks_after }
